@@ -1,0 +1,4 @@
+pub mod Causes
+pub mod Octets
+pub mod Memory
+pub mod Numbers

@@ -1,0 +1,58 @@
+-- The 5B groups of the symbols: one table, read both ways.
+use Rattle.std.specs.Prelude.{◌≡◌, ℕ, Bool, true, false, ◌&&◌, ◌==◌, IsTrue, List, [], ◌∷◌, Option, None, Some, if◌then◌else◌}
+use Rattle.std.specs.List.{list_any}
+use Rattle.t1s_symbols.specs.declared.Symbol.{Symbol}
+use Rattle.t1s_symbols.specs.declared.Symbol.TheVariants.{Nibble, J, K, T, R, H, N, S}
+use Rattle.t1s_symbols.specs.Ranges.{IsSymbol}
+
+-- the 23 pairs of a symbol and its group. The groups of the sixteen nibbles are the 4B/5B code that IEEE
+-- 802.3 clause 147 uses; the seven control symbols are this project's closed list. Silence (0x1F) is no
+-- symbol, and has no row
+abbrev pub group_table : List (Symbol × ℕ)
+group_table =
+    (Nibble 0x0, 0x1E) ∷ (Nibble 0x1, 0x09) ∷ (Nibble 0x2, 0x14) ∷ (Nibble 0x3, 0x15)
+    ∷ (Nibble 0x4, 0x0A) ∷ (Nibble 0x5, 0x0B) ∷ (Nibble 0x6, 0x0E) ∷ (Nibble 0x7, 0x0F)
+    ∷ (Nibble 0x8, 0x12) ∷ (Nibble 0x9, 0x13) ∷ (Nibble 0xA, 0x16) ∷ (Nibble 0xB, 0x17)
+    ∷ (Nibble 0xC, 0x1A) ∷ (Nibble 0xD, 0x1B) ∷ (Nibble 0xE, 0x1C) ∷ (Nibble 0xF, 0x1D)
+    ∷ (J, 0x18) ∷ (K, 0x11) ∷ (T, 0x0D) ∷ (R, 0x07) ∷ (H, 0x04) ∷ (N, 0x08) ∷ (S, 0x19) ∷ []
+
+-- whether two symbols are the same
+abbrev pub same_symbol : Symbol → Symbol → Bool
+same_symbol (Nibble m) (Nibble n) = m == n
+same_symbol J J = true
+same_symbol K K = true
+same_symbol T T = true
+same_symbol R R = true
+same_symbol H H = true
+same_symbol N N = true
+same_symbol S S = true
+same_symbol _ _ = false
+
+-- a symbol and a group are a pair of the table
+unfoldable pub IsPair : Symbol → ℕ → Type 0
+IsPair s g = IsTrue (list_any (λ pair. same_symbol s pair.0 && (g == pair.1)) group_table)
+
+-- the group beside the first row of a table that has the symbol, and 0 where no row has it
+abbrev pub group_in : List (Symbol × ℕ) → Symbol → ℕ
+group_in [] s = 0
+group_in (pair ∷ pairs) s = if same_symbol s pair.0 then pair.1 else group_in pairs s
+
+unfoldable pub group : Symbol → ℕ
+group s = group_in group_table s
+
+-- the symbol of the first row of a table that has the group, if there is one
+abbrev pub symbol_in : List (Symbol × ℕ) → ℕ → Option Symbol
+symbol_in [] g = None
+symbol_in (pair ∷ pairs) g = if g == pair.1 then Some pair.0 else symbol_in pairs g
+
+unfoldable pub symbol : ℕ → Option Symbol
+symbol g = symbol_in group_table g
+
+-- no two symbols have one group
+abbrev pub NoSharedGroup : Type 0
+NoSharedGroup = (s t : Symbol) (g : ℕ) → IsPair s g → IsPair t g → s ≡ t
+
+-- the two readings of the table undo each other
+pub record UndoEachOther : Type 0 where
+  pub of_symbol : (s : Symbol) → IsSymbol s → symbol (group s) ≡ Some s
+  pub of_group : (s : Symbol) (g : ℕ) → symbol g ≡ Some s → group s ≡ g

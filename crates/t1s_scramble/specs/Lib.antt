@@ -1,0 +1,4 @@
+pub mod Bits
+pub mod Scrambled
+pub mod Register
+pub mod Laws

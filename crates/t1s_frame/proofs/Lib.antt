@@ -1,0 +1,4 @@
+pub mod CheckSteps
+pub mod Nibbles
+pub mod Pieces
+pub mod Whole

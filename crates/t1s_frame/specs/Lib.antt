@@ -1,0 +1,4 @@
+pub mod Arrivals
+pub mod Frame
+pub mod FrameCheck
+pub mod Laws

@@ -1,0 +1,68 @@
+-- What a node hears: one more node, two pasts that agree, and who arrives alone.
+use Rattle.std.proofs.Common.{◌≡◌, ℕ, suc, ◌+◌, ◌<◌, ◌≤◌, List, [], ◌∷◌, ◌++◌, length, get_or, take, Option, None, Some, true, false, eqb, refl, sym, ◌∙◌, ap, arith, rules, add-zero, append_assoc, inl, inr}
+use Rattle.std.proofs.lemmas.List.{append-nil, take_more, length-take-le}
+use Rattle.std.proofs.lemmas.Bool.{cases_eq}
+use Rattle.std.proofs.lemmas.Bool.Decides.{nat_tests}
+use Rattle.std.specs.Int.{abs_diff}
+use Rattle.std.specs.Option.{option_to_list}
+use Rattle.t1s_symbols.specs.declared.Heard.TheVariants.{Nothing}
+use Rattle.t1s_symbols.specs.declared.Quarter.{Quarter}
+use Rattle.t1s_world.specs.Hearing.{heard_of, heard_with, arriving, arriving_from, heard}
+
+-- one more quarter, or none
+pub heard_of-append : (qs : List Quarter) (q : Option Quarter) → heard_of (qs ++ option_to_list q) ≡ heard_with (heard_of qs) q
+heard_of-append qs None = ap heard_of (append-nil qs)
+heard_of-append [] (Some q) = refl
+heard_of-append (p ∷ []) (Some q) = refl
+heard_of-append (p ∷ r ∷ qs) (Some q) = refl
+
+module _ (at : ℕ → ℕ → Option Quarter) (j x : ℕ) where
+  arriving_from-append : (s : ℕ) (ys : List ℕ) (y : ℕ) → arriving_from at j x s (ys ++ y ∷ []) ≡ arriving_from at j x s ys ++ option_to_list (arriving at j x (s + length ys) y)
+  arriving_from-append s [] y = rw (add-zero, append-nil) refl
+  arriving_from-append s (z ∷ ys) y =
+      let next : (s + 1) + length ys ≡ s + suc (length ys) = omega arith in
+      let rest = arriving_from-append (s + 1) ys y in
+      let first : List Quarter = option_to_list (arriving at j x s z) in
+      ap (λ (r : List Quarter). first ++ r) (rw next at rest)
+      ∙ sym (append_assoc first (arriving_from at j x (s + 1) ys) (option_to_list (arriving at j x (s + suc (length ys)) y)))
+
+  -- what is heard from the first i + 1 nodes
+  pub heard_of-take_more : (ys : List ℕ) (i : ℕ) → i < length ys → heard_of (arriving_from at j x 0 (take (i + 1) ys)) ≡ heard_with (heard_of (arriving_from at j x 0 (take i ys))) (arriving at j x i (get_or ys i 0))
+  heard_of-take_more ys i lt =
+      let short : 0 + length (take i ys) ≡ i = omega (arith, length-take-le i ys (omega arith)) in
+      rw (take_more ys i 0 lt, arriving_from-append 0 (take i ys) (get_or ys i 0), short)
+      (heard_of-append (arriving_from at j x 0 (take i ys)) (arriving at j x i (get_or ys i 0)))
+
+-- two pasts that agree as far back as any node is away are heard alike
+module _ (room : ℕ) (at bt : ℕ → ℕ → Option Quarter) where
+  arriving_from_same : (n : ℕ) → ((i d : ℕ) → i < n → d < room → at i d ≡ bt i d) → (j x : ℕ) → x < room → (s : ℕ) (ys : List ℕ) → s + length ys ≤ n → ((k : ℕ) → get_or ys k 0 < room) → arriving_from at j x s ys ≡ arriving_from bt j x s ys
+  arriving_from_same n same j x hx s [] fits near = refl
+  arriving_from_same n same j x hx s (y ∷ ys) fits near =
+      let hy : y < room = near 0 in
+      let far : abs_diff x y < room = omega arith in
+      let first : at s (abs_diff x y) ≡ bt s (abs_diff x y) = same s (abs_diff x y) (omega arith) far in
+      let rest = arriving_from_same n same j x hx (s + 1) ys (omega arith) (λ k. near (suc k)) in
+      rw (first, rest) refl
+
+  pub heard_same : (places : List ℕ) → ((i d : ℕ) → i < length places → d < room → at i d ≡ bt i d) → ((k : ℕ) → get_or places k 0 < room) → (j : ℕ) → heard at places j ≡ heard bt places j
+  unfolding heard
+  heard_same places same near j =
+      ap heard_of (arriving_from_same (length places) same j (get_or places j 0) (near j) 0 places (omega arith) near)
+
+-- where no other node drove, a node hears nothing
+arriving_from_none : (at : ℕ → ℕ → Option Quarter) (j x s : ℕ) (ys : List ℕ) → ((i d : ℕ) → i < s + length ys → (i ≡ j → ⊥) → at i d ≡ None) → arriving_from at j x s ys ≡ []
+arriving_from_none at j x s [] none = refl
+arriving_from_none at j x s (y ∷ ys) none =
+    let rest = arriving_from_none at j x (s + 1) ys (λ i d h ne. none i d (omega arith) ne) in
+    elim (cases_eq s j) [
+      | inl same ↦ let b : eqb s j ≡ true = search (rules, nat_tests) in rw (b, rest) refl
+      | inr other ↦
+          let b : eqb s j ≡ false = search (rules, nat_tests) in
+          let e : at s (abs_diff x y) ≡ None = none s (abs_diff x y) (omega arith) other in
+          rw (b, e, rest) refl
+    ]
+
+pub heard_nothing : (at : ℕ → ℕ → Option Quarter) (places : List ℕ) (j : ℕ) → ((i d : ℕ) → i < length places → (i ≡ j → ⊥) → at i d ≡ None) → heard at places j ≡ Nothing
+unfolding heard
+heard_nothing at places j none =
+    ap heard_of (arriving_from_none at j (get_or places j 0) 0 places (λ i d h ne. none i d (omega arith) ne))

@@ -1,0 +1,128 @@
+-- The world one tick on, and one node of it from tick to tick.
+use Rattle.std.proofs.Common.{◌≡◌, ℕ, zero, suc, ◌+◌, ◌<◌, ◌≤◌, List, take, drop, set, [], ◌∷◌, ◌++◌, length, get_or, drop, set, None, Some, refl, ◌∙◌, ap, arith, add-zero, zero-add}
+use Rattle.std.specs.Prelude.{slice_get}
+use Rattle.std.proofs.lemmas.List.{length-map, get_or_past, take_more, length-take-le}
+use Rattle.t1s_symbols.specs.declared.Heard.{Heard}
+use Rattle.t1s_world.specs.Hearing.{heard}
+use Rattle.t1s_world.proofs.ListLemmas.{slice_get-map, get_or-map, written_more, get_or-unwritten}
+use Rattle.t1s_world.specs.World.{Machine, past, at_depth, after_drive, row_of, after_hear, sensed_by, after_tick, driven_at, heard_at}
+
+module _ {Kept Driven Sensed : Type 0} (m : Machine Kept Driven Sensed) (t : ℕ) where
+  pub after_hear_same : (h k : ℕ → Heard) → ((j : ℕ) → h j ≡ k j) → (j : ℕ) (ns : List Kept) → after_hear m t h j ns ≡ after_hear m t k j ns
+  after_hear_same h k same j [] = refl
+  after_hear_same h k same j (n ∷ ns) =
+      let e = same j in
+      let rest = after_hear_same h k same (j + 1) ns in
+      rw (e, rest) refl
+
+  pub sensed_by_same : (h k : ℕ → Heard) → ((j : ℕ) → h j ≡ k j) → (j : ℕ) (ns : List Kept) → sensed_by m t h j ns ≡ sensed_by m t k j ns
+  sensed_by_same h k same j [] = refl
+  sensed_by_same h k same j (n ∷ ns) =
+      let e = same j in
+      let rest = sensed_by_same h k same (j + 1) ns in
+      rw (e, rest) refl
+
+  module _ (h : ℕ → Heard) where
+    pub length-after_hear : (s : ℕ) (ns : List Kept) → length (after_hear m t h s ns) ≡ length ns
+    length-after_hear s [] = refl
+    length-after_hear s (n ∷ ns) = ap suc (length-after_hear (s + 1) ns)
+
+    pub length-sensed_by : (s : ℕ) (ns : List Kept) → length (sensed_by m t h s ns) ≡ length ns
+    length-sensed_by s [] = refl
+    length-sensed_by s (n ∷ ns) = ap suc (length-sensed_by (s + 1) ns)
+
+    -- one more node
+    pub after_hear-append : (s : ℕ) (ns : List Kept) (n : Kept) → after_hear m t h s (ns ++ n ∷ []) ≡ after_hear m t h s ns ++ (m.hear t (h (s + length ns)) n).0 ∷ []
+    after_hear-append s [] n = rw add-zero refl
+    after_hear-append s (x ∷ ns) n =
+        let next : (s + 1) + length ns ≡ s + suc (length ns) = omega arith in
+        let rest = after_hear-append (s + 1) ns n in
+        ap (λ (r : List Kept). (m.hear t (h s) x).0 ∷ r) (rw next at rest)
+
+    pub sensed_by-append : (s : ℕ) (ns : List Kept) (n : Kept) → sensed_by m t h s (ns ++ n ∷ []) ≡ sensed_by m t h s ns ++ (m.hear t (h (s + length ns)) n).1 ∷ []
+    sensed_by-append s [] n = rw add-zero refl
+    sensed_by-append s (x ∷ ns) n =
+        let next : (s + 1) + length ns ≡ s + suc (length ns) = omega arith in
+        let rest = sensed_by-append (s + 1) ns n in
+        ap (λ (r : List Sensed). (m.hear t (h s) x).1 ∷ r) (rw next at rest)
+
+    -- one more node hears, in a list that is rewritten from the front
+    pub after_hear_more : (xs ys : List Kept) (i : ℕ) (x : Kept) → i < length xs → ys ≡ after_hear m t h 0 (take i xs) ++ drop i xs → x ≡ get_or ys i x → set ys i (m.hear t (h i) x).0 ≡ after_hear m t h 0 (take (i + 1) xs) ++ drop (i + 1) xs
+    after_hear_more xs ys i x lt e is =
+        let done : List Kept = after_hear m t h 0 (take i xs) in
+        let short : length (take i xs) ≡ i = length-take-le i xs (omega arith) in
+        let len : length done ≡ i = length-after_hear 0 (take i xs) ∙ short in
+        let same : x ≡ get_or xs i x = is ∙ get_or-unwritten done xs ys i x len lt e in
+        let at : 0 + length (take i xs) ≡ i = omega (arith, short) in
+        rw (take_more xs i x lt, ← same, after_hear-append 0 (take i xs) x, at)
+        (written_more done xs ys i (m.hear t (h i) x).0 x len lt e)
+
+    pub sensed_by_more : (xs ys : List Kept) (i : ℕ) (x : Kept) → i < length xs → ys ≡ after_hear m t h 0 (take i xs) ++ drop i xs → x ≡ get_or ys i x → sensed_by m t h 0 (take (i + 1) xs) ≡ sensed_by m t h 0 (take i xs) ++ (m.hear t (h i) x).1 ∷ []
+    sensed_by_more xs ys i x lt e is =
+        let done : List Kept = after_hear m t h 0 (take i xs) in
+        let short : length (take i xs) ≡ i = length-take-le i xs (omega arith) in
+        let len : length done ≡ i = length-after_hear 0 (take i xs) ∙ short in
+        let same : x ≡ get_or xs i x = is ∙ get_or-unwritten done xs ys i x len lt e in
+        let at : 0 + length (take i xs) ≡ i = omega (arith, short) in
+        rw (take_more xs i x lt, ← same, sensed_by-append 0 (take i xs) x, at) refl
+
+    -- a node after the hear phase
+    slice_get-after_hear : (s : ℕ) (ns : List Kept) (i : ℕ) (n : Kept) → slice_get ns i ≡ Some n → slice_get (after_hear m t h s ns) i ≡ Some (m.hear t (h (s + i)) n).0
+    slice_get-after_hear s [] i n e = cc
+    slice_get-after_hear s (x ∷ ns) zero n e = let same : x ≡ n = cc in rw (add-zero, same) refl
+    slice_get-after_hear s (x ∷ ns) (suc i) n e =
+        let next : s + 1 + i ≡ s + suc i = omega arith in
+        rw (← next) (slice_get-after_hear (s + 1) ns i n e)
+
+module _ {Kept Driven Sensed : Type 0} (m : Machine Kept Driven Sensed) (places : List ℕ) (first : List Kept) where
+  pub past-zero : past m places first 0 ≡ record { nodes = first; rows = [] }
+  unfolding past
+  past-zero = refl
+
+  pub past-suc : (t : ℕ) → past m places first (suc t) ≡ after_tick m places t (past m places first t)
+  unfolding past
+  past-suc t = refl
+
+  -- what is in the rows: at depth d, what was driven d ticks before the newest
+  pub at_depth-within : (t d u i : ℕ) → u + suc d ≡ t → at_depth (past m places first t).rows i d ≡ driven_at m places first u i
+  at_depth-within zero d u i e = absurd (omega arith)
+  at_depth-within (suc t) zero u i e =
+      let same : u ≡ t = omega arith in
+      rw (past-suc t, same) refl
+  at_depth-within (suc t) (suc d) u i e = rw (past-suc t) (at_depth-within t d u i (omega arith))
+
+  pub at_depth-before : (t d i : ℕ) → t ≤ d → at_depth (past m places first t).rows i d ≡ None
+  at_depth-before zero d i e = rw past-zero refl
+  at_depth-before (suc t) zero i e = absurd (omega arith)
+  at_depth-before (suc t) (suc d) i e = rw (past-suc t) (at_depth-before t d i (omega arith))
+
+  nodes-suc : (t : ℕ) → (past m places first (suc t)).nodes ≡ after_hear m t (heard (at_depth (past m places first (suc t)).rows) places) 0 (after_drive m t (past m places first t).nodes)
+  unfolding past
+  nodes-suc t = refl
+
+  -- a node from tick to tick
+  pub kept_next : (t i : ℕ) (n : Kept) → slice_get (past m places first t).nodes i ≡ Some n → slice_get (past m places first (suc t)).nodes i ≡ Some (m.hear t (heard_at m places first t i) (m.drive t n).0).0
+  kept_next t i n e =
+      let h : ℕ → Heard = heard (at_depth (past m places first (suc t)).rows) places in
+      let nodes : List Kept = after_drive m t (past m places first t).nodes in
+      let before = slice_get-map (λ n. (m.drive t n).0) (past m places first t).nodes i n e in
+      let at : slice_get (after_hear m t h 0 nodes) i ≡ Some (m.hear t (h (0 + i)) (m.drive t n).0).0 = slice_get-after_hear m t h 0 nodes i (m.drive t n).0 before in
+      rw (nodes-suc t) (rw zero-add at at)
+
+  -- what a node drives
+  pub driven_is : (t i : ℕ) (n : Kept) → slice_get (past m places first t).nodes i ≡ Some n → driven_at m places first t i ≡ m.quarter (m.drive t n).1
+  driven_is t i n e = get_or-map (λ n. m.quarter (m.drive t n).1) (past m places first t).nodes i n None e
+
+  pub length-nodes : (t : ℕ) → length (past m places first t).nodes ≡ length first
+  length-nodes zero = rw past-zero refl
+  length-nodes (suc t) =
+      let nodes : List Kept = after_drive m t (past m places first t).nodes in
+      rw (nodes-suc t)
+      (length-after_hear m t (heard (at_depth (past m places first (suc t)).rows) places) 0 nodes
+      ∙ (length-map (past m places first t).nodes (λ n. (m.drive t n).0) ∙ length-nodes t))
+
+  -- there is no other node
+  pub driven_past : (t i : ℕ) → length first ≤ i → driven_at m places first t i ≡ None
+  driven_past t i h =
+      let nodes : List Kept = (past m places first t).nodes in
+      get_or_past (row_of m t nodes) i None (omega (arith, length-map nodes (λ n. m.quarter (m.drive t n).1), length-nodes t))

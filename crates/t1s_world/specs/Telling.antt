@@ -1,0 +1,24 @@
+-- Events that are told one after another, and the first tick at which something holds.
+use Rattle.std.specs.Option.{option_or}
+use Rattle.std.specs.Prelude.{◌≡◌, ℕ, zero, suc, ◌+◌, Bool, List, [], ◌∷◌, ◌++◌, Option, Some, None, if◌then◌else◌}
+
+module _ {W E : Type 0} where
+  -- a watch w that is told these events, one after another, may become v
+  abbrev pub AreTold : (W → E → W → Type 0) → W → List E → W → Type 0
+  AreTold sees w [] v = v ≡ w
+  AreTold sees w (e ∷ es) v = (u : W) × sees w e u × AreTold sees u es v
+
+-- the events of all ticks below t, the oldest tick first
+unfoldable pub events_below : {E : Type 0} → (ℕ → List E) → ℕ → List E
+events_below events zero = []
+events_below events (suc t) = events_below events t ++ events t
+
+-- the first number below t that passes a test
+unfoldable pub first_below : (ℕ → Bool) → ℕ → Option ℕ
+first_below p zero = None
+first_below p (suc t) = option_or (first_below p t) (if p t then Some t else None)
+
+-- how many numbers below t pass a test
+unfoldable pub count_below : (ℕ → Bool) → ℕ → ℕ
+count_below p zero = 0
+count_below p (suc t) = count_below p t + (if p t then 1 else 0)

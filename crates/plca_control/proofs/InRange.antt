@@ -1,0 +1,27 @@
+-- The ranges along the rows.
+use Rattle.std.proofs.Common.{◌≡◌, ℕ, zero, suc, Bool, refl, rules}
+use Rattle.std.specs.Prelude.{IsTrue}
+use Rattle.std.proofs.lemmas.Bool.Decides.{nat_tests}
+use Rattle.plca_control.specs.declared.ControlSet.{ControlSet}
+use Rattle.plca_control.specs.declared.ControlIn.{ControlIn}
+use Rattle.plca_control.specs.declared.State.{State}
+use Rattle.plca_control.specs.ControlTable.{reach, control_row, control_start}
+use Rattle.plca_control.specs.Runs.{state_at}
+use Rattle.plca_control.specs.Ranges.{IsControlSet, set_in_range, in_range}
+
+reach_in_range : (s : ControlSet) (ready : Bool) (c : ℕ) → IsTrue (set_in_range s) → IsTrue (in_range s (reach s ready c).0)
+reach_in_range s ready c set = search (rules, nat_tests)
+
+pub row_in_range : (s : ControlSet) (st : State) (i : ControlIn) → IsTrue (in_range s st) → IsTrue (in_range s (control_row s st i).0)
+row_in_range s _ i h = search (rules, nat_tests, reach_in_range)
+
+pub start_in_range : (s : ControlSet) → IsControlSet s → IsTrue (in_range s (control_start s).state)
+start_in_range s fits = search (rules, nat_tests)
+
+module _ (s : ControlSet) (given : ℕ → ControlIn) (fits : IsControlSet s) where
+  pub stays_in_range : (t : ℕ) → ((state_at s given t).set ≡ s) × IsTrue (in_range s (state_at s given t).state)
+  unfolding state_at
+  stays_in_range zero = (refl, start_in_range s fits)
+  stays_in_range (suc t) =
+      let (same, here) = stays_in_range t in
+      (same, rw same (row_in_range s (state_at s given t).state (given t) here))

@@ -1,0 +1,5 @@
+use Rattle.plca_control.proofs.Along.{beacon_lasts}
+use Rattle.plca_control.proofs.laws.beacons_last_twenty.Goals as goal
+
+pub returns : goal.returns
+returns c s given t = beacon_lasts s given t

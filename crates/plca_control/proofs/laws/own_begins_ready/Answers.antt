@@ -1,0 +1,5 @@
+use Rattle.plca_control.proofs.Along.{begins_ready}
+use Rattle.plca_control.proofs.laws.own_begins_ready.Goals as goal
+
+pub returns : goal.returns
+returns c s given t = begins_ready s given t

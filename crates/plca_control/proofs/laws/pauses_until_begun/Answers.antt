@@ -1,0 +1,5 @@
+use Rattle.plca_control.proofs.Along.{pause_until_begun}
+use Rattle.plca_control.proofs.laws.pauses_until_begun.Goals as goal
+
+pub returns : goal.returns
+returns c s given t = pause_until_begun s given t

@@ -1,0 +1,134 @@
+-- The table of PLCA control (IEEE Std 802.3 148.4.4): its start, its rows in order, and what it gives out.
+-- In each state the first row whose condition holds decides. A number in a state is a count of ticks, of
+-- the opportunity (`c`), or of the further frames that a burst may still have (`b`).
+use Rattle.std.specs.Prelude.{ℕ, ◌+◌, ◌-◌, ◌*◌, Bool, true, false, ◌&&◌, nat_le, nat_lt, ◌==◌, if◌then◌else◌}
+use Rattle.t1s_symbols.specs.declared.Class.{Class}
+use Rattle.t1s_symbols.specs.declared.Class.TheVariants.{None as Unread, Beacon as BeaconHeard, Run as RunHeard, Other as OtherHeard}
+use Rattle.t1s_pcs_tx.specs.declared.TxCmd.{TxCmd}
+use Rattle.t1s_pcs_tx.specs.declared.TxCmd.TheVariants.{None as NoCmd, Beacon as BeaconCmd, Commit as CommitCmd}
+use Rattle.t1s_pcs_tx.specs.declared.TxReport.{TxReport}
+use Rattle.t1s_pcs_tx.specs.declared.TxReport.TheVariants.{Quiet, Leading, Framing, Closed}
+use Rattle.plca_control.specs.declared.ControlSet.{ControlSet}
+use Rattle.plca_control.specs.declared.ControlIn.{ControlIn}
+use Rattle.plca_control.specs.declared.ControlOut.{ControlOut}
+use Rattle.plca_control.specs.declared.State.{State}
+use Rattle.plca_control.specs.declared.State.TheVariants.{Disabled, Recover, Resync, Early, Beacon, Syncing, WaitTo, Receive, Commit, Transmit, Burst, Drain}
+use Rattle.plca_control.specs.State.{ControlState}
+
+-- the receiver has heard a beacon
+abbrev pub is_beacon : Class → Bool
+is_beacon Unread = false
+is_beacon BeaconHeard = true
+is_beacon RunHeard = false
+is_beacon OtherHeard = false
+
+-- the transmitter has just ended a closer, of a good piece or of any
+abbrev pub is_closed : TxReport → Bool
+is_closed Quiet = false
+is_closed Leading = false
+is_closed Framing = false
+is_closed (Closed good) = true
+
+abbrev pub is_closed_good : TxReport → Bool
+is_closed_good Quiet = false
+is_closed_good Leading = false
+is_closed_good Framing = false
+is_closed_good (Closed good) = good
+
+-- the state in which control starts: ID 255 takes no part, ID 0 gives the beacons, all others follow
+abbrev pub control_start : ControlSet → ControlState
+control_start s = record {
+  set = s;
+  state = if s.id == 255 then Disabled else (if s.id == 0 then Recover 0 else Resync);
+}
+
+-- the instant at which the opportunity of ID c begins
+abbrev pub reach : ControlSet → Bool → ℕ → State × TxCmd
+reach s ready c =
+    if (s.id == 0) && nat_le s.count c then (Beacon 20, BeaconCmd)
+    else (if (c == s.id) && ready then (Commit 288 s.burst, CommitCmd)
+    else (if nat_lt 0 s.id && nat_le 255 c then (Resync, NoCmd)
+    else (WaitTo c s.to, NoCmd)))
+
+-- the rows: the new state and the command
+abbrev pub control_row : ControlSet → State → ControlIn → State × TxCmd
+control_row s Disabled i = (Disabled, NoCmd)
+control_row s (Recover q) i =
+    if i.crs then (Recover 0, NoCmd)
+    else (if q == 258 * s.to then (Beacon 20, BeaconCmd)
+    else (Recover (q + 1), NoCmd))
+control_row s Resync i =
+    if i.crs then (Early, NoCmd)
+    else (Resync, NoCmd)
+control_row s Early i =
+    if i.crs then (Early, NoCmd)
+    else (if is_beacon i.class then reach s i.ready 0
+    else (Resync, NoCmd))
+control_row s (Beacon n) i =
+    if n == 1 then (Syncing, NoCmd)
+    else (Beacon (n - 1), BeaconCmd)
+control_row s Syncing i =
+    if i.crs then (Syncing, NoCmd)
+    else reach s i.ready 0
+control_row s (WaitTo c n) i =
+    if i.crs then (Receive c, NoCmd)
+    else (if n == 1 then reach s i.ready (c + 1)
+    else (WaitTo c (n - 1), NoCmd))
+control_row s (Receive c) i =
+    if i.crs then (Receive c, NoCmd)
+    else (if is_beacon i.class && nat_lt 0 s.id then reach s i.ready 0
+    else (if is_beacon i.class && (s.id == 0) then (Recover 0, NoCmd)
+    else reach s i.ready (c + 1)))
+control_row s (Commit n b) i =
+    if i.begun then (Transmit b, CommitCmd)
+    else (if n == 1 then (Drain, NoCmd)
+    else (Commit (n - 1) b, CommitCmd))
+control_row s (Transmit b) i =
+    if is_closed_good i.tx && nat_lt 0 b then (Burst 128 (b - 1), CommitCmd)
+    else (if is_closed i.tx then (Drain, NoCmd)
+    else (Transmit b, CommitCmd))
+control_row s (Burst n b) i =
+    if i.begun then (Transmit b, CommitCmd)
+    else (if n == 1 then (Drain, NoCmd)
+    else (Burst (n - 1) b, CommitCmd))
+control_row s Drain i =
+    if i.crs then (Drain, NoCmd)
+    else reach s i.ready (s.id + 1)
+
+-- control takes part in the cycle of opportunities
+abbrev pub is_active : State → Bool
+is_active Disabled = false
+is_active (Recover q) = false
+is_active Resync = false
+is_active Early = false
+is_active (Beacon n) = true
+is_active Syncing = true
+is_active (WaitTo c n) = true
+is_active (Receive c) = true
+is_active (Commit n b) = true
+is_active (Transmit b) = true
+is_active (Burst n b) = true
+is_active Drain = true
+
+-- the node holds its own opportunity
+abbrev pub is_own : State → Bool
+is_own Disabled = false
+is_own (Recover q) = false
+is_own Resync = false
+is_own Early = false
+is_own (Beacon n) = false
+is_own Syncing = false
+is_own (WaitTo c n) = false
+is_own (Receive c) = false
+is_own (Commit n b) = true
+is_own (Transmit b) = true
+is_own (Burst n b) = true
+is_own Drain = false
+
+-- one step: the row, and `active` and `own` of the new state
+abbrev pub control_step : ControlState → ControlIn → ControlState × ControlOut
+control_step c i =
+    let next : State × TxCmd = control_row c.set c.state i in (
+      record { set = c.set; state = next.0 },
+      record { cmd = next.1; active = is_active next.0; own = is_own next.0 },
+    )

@@ -1,0 +1,6 @@
+pub mod State
+pub mod Ranges
+pub mod ControlTable
+pub mod StatusTable
+pub mod Runs
+pub mod Laws

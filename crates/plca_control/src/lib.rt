@@ -1,0 +1,375 @@
+//! PLCA control and PLCA status of one node (IEEE Std 802.3, clause 148).
+//!
+//! Once a tick `Control::step` takes what the node hears and what its data path and transmitter say, and
+//! gives the transmitter's command. The layer above uses that `Control::step` is `control_step` and
+//! `Status::step` is `status_step`: the tables stand in `specs/ControlTable.antt` and
+//! `specs/StatusTable.antt`, the ranges of their counts in `specs/Ranges.antt`.
+#![tactic(auto)]
+
+ghost use Rattle.std.specs.Prelude.{◌≡◌, ℕ, ◌+◌, ◌≤◌, ◌-◌, ◌*◌, IsTrue};
+ghost use Rattle.plca_control.specs.ControlTable.{reach, control_row, control_start, control_step, is_active, is_own};
+ghost use Rattle.plca_control.specs.Ranges.{IsControlSet, in_range, set_in_range, status_in_range};
+ghost use Rattle.plca_control.specs.StatusTable.{status_is_ok, status_start, status_step};
+
+use std::marker::Model;
+use t1s_pcs_tx::{TxCmd, TxReport};
+use t1s_symbols::Class;
+
+pub mod laws;
+#[cfg(test)]
+mod tests;
+
+/// What a node's control is set to.
+#[derive(Clone, Copy, PartialEq, Eq, Debug)]
+pub struct ControlSet {
+    /// The node's ID: 0 gives the beacons, 255 takes no part.
+    pub id: u8,
+    /// The number of transmit opportunities in a cycle, 1 to 254.
+    pub count: u8,
+    /// The length of a transmit opportunity that nobody takes, 16 to 255 ticks.
+    pub to: u8,
+    /// How many further frames may follow the first one of an opportunity.
+    pub burst: u8,
+}
+
+/// What control is told in a tick: all of it as the tick before left it.
+#[derive(Clone, Copy, PartialEq, Eq, Debug)]
+pub struct ControlIn {
+    /// Carrier is sensed.
+    pub crs: bool,
+    /// What the receiver takes the last burst for.
+    pub class: Class,
+    /// The data path holds a frame that waits for its opportunity.
+    pub ready: bool,
+    /// The data path has begun to send.
+    pub begun: bool,
+    /// What the transmitter has done.
+    pub tx: TxReport,
+}
+
+/// What control gives out in a tick.
+#[derive(Clone, Copy, PartialEq, Eq, Debug)]
+pub struct ControlOut {
+    /// What the transmitter is told.
+    pub cmd: TxCmd,
+    /// The node takes part in the cycle of opportunities.
+    pub active: bool,
+    /// The node holds its own opportunity.
+    pub own: bool,
+}
+
+/// How long a beacon lasts, in ticks.
+const BEACON_TICKS: u8 = 20;
+
+/// How long a commit waits for its frame, in ticks.
+const COMMIT_TICKS: u16 = 288;
+
+/// How long a burst waits for its next frame, in ticks.
+const BURST_TICKS: u8 = 128;
+
+/// How many opportunities of silence a recovery takes.
+const RECOVER_OPPORTUNITIES: u32 = 258;
+
+/// From this ID on there is no opportunity.
+const NO_OPPORTUNITY: u16 = 255;
+
+/// How long the status stays OK once control has stopped taking part, in ticks.
+const HYSTERESIS_TICKS: u32 = 130090;
+
+/// A state of the table of control, with its counts.
+#[derive(Clone, Copy)]
+enum State {
+    /// Takes no part.
+    Disabled,
+    /// The node of ID 0 has heard silence for so many ticks.
+    Recover(u32),
+    /// Waits for carrier.
+    Resync,
+    /// Hears what may be a beacon.
+    Early,
+    /// Gives a beacon, for so many ticks with this one.
+    Beacon(u8),
+    /// Waits for its beacon to end on the line.
+    Syncing,
+    /// In the opportunity of this ID, for so many ticks with this one.
+    WaitTo(u8, u8),
+    /// In the opportunity of this ID, which a node has taken.
+    Receive(u8),
+    /// Has taken its own opportunity: ticks left for the frame to begin, and further frames.
+    Commit(u16, u8),
+    /// Its frame goes out: further frames.
+    Transmit(u8),
+    /// A further frame may follow: ticks left for it to begin, and further frames after it.
+    Burst(u8, u8),
+    /// Waits for the end of its own carrier.
+    Drain,
+}
+
+/// PLCA control of one node.
+#[derive(Clone, Copy)]
+pub struct Control {
+    set: ControlSet,
+    state: State,
+}
+
+impl Model for Control {
+    ghost use Rattle.plca_control.specs.State.{ControlState};
+
+    ghost Value = { ControlState };
+
+    ghost use Rattle.plca_control.specs.Ranges.{in_range};
+    ghost use Rattle.std.specs.Prelude.{IsTrue};
+
+    ghost view = { λ c. record { set = c.set; state = c.state } };
+
+    ghost invariant = { λ c. IsTrue (in_range c.set c.state) };
+
+    ghost inverse = { λ c. record { set = c.set; state = c.state } };
+}
+
+/// The instant at which the opportunity of ID `c` begins.
+fn reach(set: &ControlSet, ready: bool, c: u16) -> (State, TxCmd)
+    requires { IsTrue (set_in_range set.now) }
+    ensures row { result ≡ reach set.now ready c }
+    ensures ranges { IsTrue (in_range set.now result.0) }
+{
+    if set.id == 0 && c >= u16::from(set.count) {
+        (State::Beacon(BEACON_TICKS), TxCmd::Beacon)
+    } else if c == u16::from(set.id) && ready {
+        (State::Commit(COMMIT_TICKS, set.burst), TxCmd::Commit)
+    } else if set.id > 0 && c >= NO_OPPORTUNITY {
+        (State::Resync, TxCmd::None)
+    } else {
+        (State::WaitTo(c as u8, set.to), TxCmd::None)
+    }
+}
+
+/// The row of `Recover(q)`.
+fn recover(set: &ControlSet, q: u32, inp: ControlIn) -> (State, TxCmd)
+    requires { IsTrue (in_range set.now (State.Recover q)) }
+    ensures row { result ≡ control_row set.now (State.Recover q) inp }
+    ensures ranges { IsTrue (in_range set.now result.0) }
+{
+    if inp.crs {
+        (State::Recover(0), TxCmd::None)
+    } else if q == RECOVER_OPPORTUNITIES * u32::from(set.to) {
+        (State::Beacon(BEACON_TICKS), TxCmd::Beacon)
+    } else {
+        (State::Recover(q + 1), TxCmd::None)
+    }
+}
+
+/// The row of `Early`.
+fn early(set: &ControlSet, inp: ControlIn) -> (State, TxCmd)
+    requires { IsTrue (set_in_range set.now) }
+    ensures row { result ≡ control_row set.now State.Early inp }
+    ensures ranges { IsTrue (in_range set.now result.0) }
+{
+    match (inp.crs, inp.class) {
+        (true, _) => (State::Early, TxCmd::None),
+        (false, Class::Beacon) => reach(set, inp.ready, 0),
+        (false, _) => (State::Resync, TxCmd::None),
+    }
+}
+
+/// The row of `WaitTo(c, n)`.
+fn wait_to(set: &ControlSet, c: u8, n: u8, inp: ControlIn) -> (State, TxCmd)
+    requires { IsTrue (in_range set.now (State.WaitTo c n)) }
+    ensures row { result ≡ control_row set.now (State.WaitTo c n) inp }
+    ensures ranges { IsTrue (in_range set.now result.0) }
+{
+    match (inp.crs, n) {
+        (true, _) => (State::Receive(c), TxCmd::None),
+        (false, 1) => reach(set, inp.ready, u16::from(c) + 1),
+        (false, _) => (State::WaitTo(c, n - 1), TxCmd::None),
+    }
+}
+
+/// The row of `Receive(c)`.
+fn receive(set: &ControlSet, c: u8, inp: ControlIn) -> (State, TxCmd)
+    requires { IsTrue (in_range set.now (State.Receive c)) }
+    ensures row { result ≡ control_row set.now (State.Receive c) inp }
+    ensures ranges { IsTrue (in_range set.now result.0) }
+{
+    match (inp.crs, inp.class) {
+        (true, _) => (State::Receive(c), TxCmd::None),
+        (false, Class::Beacon) if set.id > 0 => reach(set, inp.ready, 0),
+        (false, Class::Beacon) => (State::Recover(0), TxCmd::None),
+        (false, _) => reach(set, inp.ready, u16::from(c) + 1),
+    }
+}
+
+/// The row of `Commit(n, b)`.
+fn commit(set: &ControlSet, n: u16, b: u8, inp: ControlIn) -> (State, TxCmd)
+    requires { IsTrue (in_range set.now (State.Commit n b)) }
+    ensures row { result ≡ control_row set.now (State.Commit n b) inp }
+    ensures ranges { IsTrue (in_range set.now result.0) }
+{
+    match (inp.begun, n) {
+        (true, _) => (State::Transmit(b), TxCmd::Commit),
+        (false, 1) => (State::Drain, TxCmd::None),
+        (false, _) => (State::Commit(n - 1, b), TxCmd::Commit),
+    }
+}
+
+/// The row of `Transmit(b)`.
+fn transmit(set: &ControlSet, b: u8, inp: ControlIn) -> (State, TxCmd)
+    requires { IsTrue (in_range set.now (State.Transmit b)) }
+    ensures row { result ≡ control_row set.now (State.Transmit b) inp }
+    ensures ranges { IsTrue (in_range set.now result.0) }
+{
+    match inp.tx {
+        TxReport::Closed { good } if good && b > 0 => {
+            (State::Burst(BURST_TICKS, b - 1), TxCmd::Commit)
+        }
+        TxReport::Closed { good: _ } => (State::Drain, TxCmd::None),
+        _ => (State::Transmit(b), TxCmd::Commit),
+    }
+}
+
+/// The row of `Burst(n, b)`.
+fn burst(set: &ControlSet, n: u8, b: u8, inp: ControlIn) -> (State, TxCmd)
+    requires { IsTrue (in_range set.now (State.Burst n b)) }
+    ensures row { result ≡ control_row set.now (State.Burst n b) inp }
+    ensures ranges { IsTrue (in_range set.now result.0) }
+{
+    match (inp.begun, n) {
+        (true, _) => (State::Transmit(b), TxCmd::Commit),
+        (false, 1) => (State::Drain, TxCmd::None),
+        (false, _) => (State::Burst(n - 1, b), TxCmd::Commit),
+    }
+}
+
+/// One row of the table: the new state and the command.
+fn row(set: &ControlSet, state: State, inp: ControlIn) -> (State, TxCmd)
+    requires { IsTrue (in_range set.now state) }
+    ensures row { result ≡ control_row set.now state inp }
+    ensures ranges { IsTrue (in_range set.now result.0) }
+{
+    match state {
+        State::Disabled => (State::Disabled, TxCmd::None),
+        State::Recover(q) => recover(set, q, inp),
+        State::Resync if inp.crs => (State::Early, TxCmd::None),
+        State::Resync => (State::Resync, TxCmd::None),
+        State::Early => early(set, inp),
+        State::Beacon(1) => (State::Syncing, TxCmd::None),
+        State::Beacon(n) => (State::Beacon(n - 1), TxCmd::Beacon),
+        State::Syncing if inp.crs => (State::Syncing, TxCmd::None),
+        State::Syncing => reach(set, inp.ready, 0),
+        State::WaitTo(c, n) => wait_to(set, c, n, inp),
+        State::Receive(c) => receive(set, c, inp),
+        State::Commit(n, b) => commit(set, n, b, inp),
+        State::Transmit(b) => transmit(set, b, inp),
+        State::Burst(n, b) => burst(set, n, b, inp),
+        State::Drain if inp.crs => (State::Drain, TxCmd::None),
+        State::Drain => reach(set, inp.ready, u16::from(set.id) + 1),
+    }
+}
+
+impl Control {
+    /// Control at the start of its node: disabled for ID 255, recovering for ID 0, and without a cycle
+    /// to follow for each other ID.
+    pub fn start(set: ControlSet) -> Control
+        requires { IsControlSet set }
+        ensures start { result ≡ control_start set }
+        ensures ranges { IsTrue (in_range result.set result.state) }
+    {
+        let state = match set.id {
+            255 => State::Disabled,
+            0 => State::Recover(0),
+            _ => State::Resync,
+        };
+        Control { set, state }
+    }
+
+    /// One tick of the table of control: the control that it leaves, and what it gives out.
+    pub fn step(self, inp: ControlIn) -> (Control, ControlOut)
+        ensures row { result ≡ control_step self inp }
+        ensures ranges { IsTrue (in_range result.0.set result.0.state) }
+    {
+        let (state, cmd) = row(&self.set, self.state, inp);
+        let active = match state {
+            State::Disabled | State::Recover(_) | State::Resync | State::Early => false,
+            _ => true,
+        };
+        let own = match state {
+            State::Commit(_, _) | State::Transmit(_) | State::Burst(_, _) => true,
+            _ => false,
+        };
+        (
+            Control {
+                set: self.set,
+                state,
+            },
+            ControlOut { cmd, active, own },
+        )
+    }
+}
+
+/// A state of the table of status.
+#[derive(Clone, Copy)]
+enum StatusState {
+    /// Control takes no part.
+    Inactive,
+    /// Control takes part.
+    Active,
+    /// Control has stopped taking part: ticks left until the status ends.
+    Hysteresis(u32),
+}
+
+/// PLCA status of one node: whether control takes part in a cycle, with a hysteresis of 130090 ticks.
+#[derive(Clone, Copy)]
+pub struct Status {
+    state: StatusState,
+}
+
+impl Model for Status {
+    ghost use Rattle.plca_control.specs.declared.StatusState.{StatusState};
+
+    ghost Value = { StatusState };
+
+    ghost use Rattle.plca_control.specs.Ranges.{status_in_range};
+    ghost use Rattle.std.specs.Prelude.{IsTrue};
+
+    ghost view = { λ s. s.state };
+
+    ghost invariant = { λ s. IsTrue (status_in_range s.state) };
+
+    ghost inverse = { λ s. record { state = s } };
+}
+
+impl Status {
+    /// The status at the start of its node: not OK.
+    pub fn start() -> Status
+        ensures { result ≡ status_start }
+    {
+        Status {
+            state: StatusState::Inactive,
+        }
+    }
+
+    /// The status is OK.
+    pub fn is_ok(&self) -> bool
+        ensures { result ≡ status_is_ok self.now }
+    {
+        match self.state {
+            StatusState::Inactive => false,
+            StatusState::Active | StatusState::Hysteresis(_) => true,
+        }
+    }
+
+    /// One tick of the table of status, with the `active` of control in this tick.
+    pub fn step(self, active: bool) -> Status
+        ensures row { result ≡ status_step self active }
+        ensures ranges { IsTrue (status_in_range result) }
+    {
+        let state = match (self.state, active) {
+            (_, true) => StatusState::Active,
+            (StatusState::Inactive, false) => StatusState::Inactive,
+            (StatusState::Active, false) => StatusState::Hysteresis(HYSTERESIS_TICKS),
+            (StatusState::Hysteresis(1), false) => StatusState::Inactive,
+            (StatusState::Hysteresis(n), false) => StatusState::Hysteresis(n - 1),
+        };
+        Status { state }
+    }
+}

@@ -1,0 +1,176 @@
+//! Runs of the two tables, stretch by stretch.
+
+ghost use Rattle.std.specs.Prelude.{◌≡◌};
+
+use super::{Control, ControlIn, ControlOut, ControlSet, State, Status};
+use std::process::Abort;
+use t1s_pcs_tx::{TxCmd, TxReport};
+use t1s_symbols::Class;
+
+const SILENCE: ControlIn = ControlIn {
+    crs: false,
+    class: Class::None,
+    ready: false,
+    begun: false,
+    tx: TxReport::Quiet,
+};
+
+const CARRIER: ControlIn = ControlIn {
+    crs: true,
+    ..SILENCE
+};
+
+const BEACON_HEARD: ControlIn = ControlIn {
+    class: Class::Beacon,
+    ..SILENCE
+};
+
+const READY: ControlIn = ControlIn {
+    ready: true,
+    ..SILENCE
+};
+
+const BEGUN: ControlIn = ControlIn {
+    begun: true,
+    ..SILENCE
+};
+
+const CLOSED: ControlIn = ControlIn {
+    tx: TxReport::Closed { good: true },
+    ..SILENCE
+};
+
+const OUTSIDE: ControlOut = ControlOut {
+    cmd: TxCmd::None,
+    active: false,
+    own: false,
+};
+
+const WAITING: ControlOut = ControlOut {
+    cmd: TxCmd::None,
+    active: true,
+    own: false,
+};
+
+const BEACON: ControlOut = ControlOut {
+    cmd: TxCmd::Beacon,
+    active: true,
+    own: false,
+};
+
+const OWNER: ControlOut = ControlOut {
+    cmd: TxCmd::Commit,
+    active: true,
+    own: true,
+};
+
+/// The same input for so many ticks, and what each of them must give out.
+type Stretch = (ControlIn, u32, ControlOut);
+
+/// A cycle of 3 opportunities of 16 ticks, with bursts of 2 further frames.
+fn set_of(id: u8) -> ControlSet
+    ensures count { result.count ≡ 3 }
+    ensures to { result.to ≡ 16 }
+{
+    ControlSet {
+        id,
+        count: 3,
+        to: 16,
+        burst: 2,
+    }
+}
+
+fn check(rt: &impl Abort, id: u8, stretches: &[Stretch]) {
+    let mut control = Control::start(set_of(id));
+    for (inp, ticks, want) in stretches {
+        for _ in 0..*ticks {
+            let (next, out) = control.step(*inp);
+            assert!(rt; out == *want);
+            control = next;
+        }
+    }
+}
+
+#[test]
+fn each_kind_of_node_keeps_its_turn(rt: HostRuntime) {
+    check(
+        &rt,
+        255,
+        &[
+            (SILENCE, 9, OUTSIDE),
+            (BEACON_HEARD, 1, OUTSIDE),
+            (READY, 9, OUTSIDE),
+        ],
+    );
+    check(
+        &rt,
+        0,
+        &[
+            (SILENCE, 9, OUTSIDE),
+            (CARRIER, 1, OUTSIDE),
+            (SILENCE, 4128, OUTSIDE),
+            (SILENCE, 20, BEACON),
+            (CARRIER, 24, WAITING),
+            (SILENCE, 48, WAITING),
+            (SILENCE, 20, BEACON),
+            (SILENCE, 1, WAITING),
+            (READY, 288, OWNER),
+            (SILENCE, 1, WAITING),
+            (SILENCE, 32, WAITING),
+            (SILENCE, 1, BEACON),
+        ],
+    );
+    check(
+        &rt,
+        1,
+        &[
+            (SILENCE, 9, OUTSIDE),
+            (BEACON_HEARD, 9, OUTSIDE),
+            (CARRIER, 24, OUTSIDE),
+            (SILENCE, 1, OUTSIDE),
+            (CARRIER, 24, OUTSIDE),
+            (BEACON_HEARD, 16, WAITING),
+            (READY, 1, OWNER),
+            (BEGUN, 99, OWNER),
+            (CLOSED, 1, OWNER),
+            (SILENCE, 127, OWNER),
+            (BEGUN, 1, OWNER),
+            (CLOSED, 1, OWNER),
+            (BEGUN, 1, OWNER),
+            (CLOSED, 1, WAITING),
+            (CARRIER, 4, WAITING),
+            (READY, 9, WAITING),
+            (CARRIER, 24, WAITING),
+            (BEACON_HEARD, 16, WAITING),
+            (READY, 288, OWNER),
+            (READY, 1, WAITING),
+        ],
+    );
+}
+
+#[test]
+fn a_commit_without_a_frame_ends(rt: HostRuntime) {
+    let last = Control {
+        set: set_of(1),
+        state: State::Commit(1, 0),
+    };
+    let (control, out) = last.step(SILENCE);
+    assert!(rt; matches!(control.state, State::Drain));
+    assert!(rt; out == WAITING);
+    let (control, out) = last.step(BEGUN);
+    assert!(rt; matches!(control.state, State::Transmit(0)));
+    assert!(rt; out == OWNER);
+}
+
+#[test]
+fn the_status_outlasts_a_short_absence(rt: HostRuntime) {
+    let mut status = Status::start();
+    assert!(rt; !status.is_ok());
+    status = status.step(true);
+    for _ in 0..130090 {
+        status = status.step(false);
+        assert!(rt; status.is_ok());
+    }
+    assert!(rt; status.step(true).is_ok());
+    assert!(rt; !status.step(false).is_ok());
+}

@@ -1,0 +1,42 @@
+// Why a script is refused.
+ghost use Rattle.std.specs.Prelude.{◌≡◌, alloc_error};
+ghost use Rattle.t1s_script.specs.declared.refusals.ScriptFault.TheVariants.{Memory};
+
+use std::alloc::{AllocError, AllocFailed};
+
+/// What is wrong with a script.
+#[derive(Clone, Copy, PartialEq, Eq, Debug)]
+pub enum ScriptReason {
+    /// It has more than 1,048,576 octets. Its line is 0.
+    TooLong,
+    /// Its first line isn't `t1s 1`, or it has no line. Its line is 1.
+    FirstLine,
+    /// A later line isn't the one that a script has in its place, or is wanting.
+    UnknownWord,
+}
+
+/// The first line at which a script is refused, and why.
+#[derive(Clone, Copy, PartialEq, Eq, Debug)]
+pub struct ScriptRefusal {
+    /// The line's number, counted from 1. It is the number of lines plus 1 where a line is wanting.
+    pub line: u32,
+    /// What is wrong there.
+    pub reason: ScriptReason,
+}
+
+/// Why no script was read.
+#[derive(Drop, Debug)]
+pub enum ScriptFault {
+    /// The octets are no script.
+    Refused(ScriptRefusal),
+    /// Want of memory.
+    Memory(AllocError),
+}
+
+impl<T: Drop> From<AllocFailed<T>> for ScriptFault {
+    ghost from_gives = { λ _ fault. fault ≡ Memory alloc_error };
+
+    fn from(failed: AllocFailed<T>) -> ScriptFault {
+        ScriptFault::Memory(AllocError::from(failed))
+    }
+}

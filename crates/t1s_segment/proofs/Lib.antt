@@ -1,0 +1,5 @@
+pub mod PhaseSteps
+pub mod TickSteps
+pub mod Silents
+pub mod Rounds
+pub mod BeaconTicks

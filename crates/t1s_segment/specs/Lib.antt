@@ -1,0 +1,12 @@
+pub mod Carrier
+pub mod Receiver
+pub mod Transmitter
+pub mod Node
+pub mod Told
+pub mod Totals
+pub mod Track
+pub mod World
+pub mod Rings
+pub mod State
+pub mod Stands
+pub mod Beacons

@@ -1,0 +1,77 @@
+-- The world of a script, and what happens in its run.
+use Rattle.std.specs.Prelude.{ℕ, ◌+◌, Bool, false, List, [], ◌∷◌, Option, map, get_or}
+use Rattle.std.specs.List.{flat_map, list_all}
+use Rattle.t1s_symbols.specs.declared.Quarter.{Quarter}
+use Rattle.t1s_world.specs.World.{Past, past, after_drive, driven_by, driven_at, sensed_at}
+use Rattle.t1s_world.specs.Telling.{first_below, count_below}
+use Rattle.plca_control.specs.declared.ControlSet.{ControlSet}
+use Rattle.t1s_script.specs.declared.script.Script.{Script}
+use Rattle.t1s_script.specs.declared.script.NodeLine.{NodeLine}
+use Rattle.t1s_segment.specs.declared.track.Track.{Track}
+use Rattle.t1s_segment.specs.declared.totals.NodeTotals.{NodeTotals}
+use Rattle.t1s_segment.specs.Told.{Told}
+use Rattle.t1s_segment.specs.Node.{node_start}
+use Rattle.t1s_segment.specs.Totals.{totals_with, after_clash}
+use Rattle.t1s_segment.specs.Track.{Happened, Sensed, track_machine}
+
+-- what the control of a node is set to. A thin script has no bursts
+abbrev pub set_of : Script → NodeLine → ControlSet
+set_of s n = record { id = n.id; count = s.count; to = n.to; burst = 0 }
+
+-- a node before its first tick
+abbrev pub first_track : Script → NodeLine → Track
+first_track s n = record { no = n.no; start = n.start; node = node_start (set_of s n) s.rise s.fall; ok = false; driving = false }
+
+abbrev pub places_of : Script → List ℕ
+places_of s = map (λ (n : NodeLine). n.place) s.nodes
+
+abbrev pub first_tracks : Script → List Track
+first_tracks s = map (first_track s) s.nodes
+
+-- the world of a script when the ticks below t have been played
+abbrev pub world : Script → ℕ → Past Track
+world s t = past track_machine (places_of s) (first_tracks s) t
+
+-- what the node at position i of the script drives in tick t
+abbrev pub driven_in : Script → ℕ → ℕ → Option Quarter
+driven_in s i t = driven_at track_machine (places_of s) (first_tracks s) t i
+
+-- the events of tick t, from what the nodes keep before it: the nodes ascending
+abbrev pub events_of : ℕ → List Track → List Told
+events_of t nodes = flat_map (λ (h : Happened). h.events) (driven_by track_machine t nodes)
+
+-- the events of tick t
+unfoldable pub events_at : Script → ℕ → List Told
+events_at s t = events_of t (world s t).nodes
+
+-- the status of every node is OK after the drive phase
+abbrev pub all_ok : List Track → Bool
+all_ok nodes = list_all (λ (k : Track). k.ok) nodes
+
+unfoldable pub all_ok_at : Script → ℕ → Bool
+all_ok_at s t = all_ok (after_drive track_machine t (world s t).nodes)
+
+-- the first tick below t in which every status was OK, if there is one
+abbrev pub settled_below : Script → ℕ → Option ℕ
+settled_below s t = first_below (all_ok_at s) t
+
+-- the clashes of tick t, node by node
+unfoldable pub clashes_at : Script → ℕ → List Bool
+clashes_at s t = map (λ (d : Sensed). d.clash) (sensed_at track_machine (places_of s) (first_tracks s) t)
+
+-- whether tick t has a clash at the node at position i
+abbrev pub clash_at : Script → ℕ → ℕ → Bool
+clash_at s i t = get_or (clashes_at s t) i false
+
+-- a node's totals after what happened in one more hear phase
+abbrev pub after_sensed : NodeTotals → Sensed → NodeTotals
+after_sensed n d = after_clash n d.clash
+
+-- the totals of the nodes at the positions i, i + 1, .., where a function tells their clashes
+abbrev pub totals_from : (ℕ → ℕ) → ℕ → List NodeLine → List NodeTotals
+totals_from clashes i [] = []
+totals_from clashes i (n ∷ ns) = totals_with n.no (clashes i) ∷ totals_from clashes (i + 1) ns
+
+-- what is counted at each node over the ticks below t
+unfoldable pub totals_below : Script → ℕ → List NodeTotals
+totals_below s t = totals_from (λ i. count_below (clash_at s i) t) 0 s.nodes

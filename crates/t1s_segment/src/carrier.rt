@@ -1,0 +1,34 @@
+ghost use Rattle.std.specs.Prelude.{◌≡◌};
+ghost use Rattle.t1s_segment.specs.Carrier.{carrier_step};
+
+/// The carrier reading of a node.
+#[derive(Clone, Copy)]
+pub struct Carrier {
+    /// Whether carrier is read.
+    pub on: bool,
+    /// For how many ticks in a row the energy has differed from the reading.
+    pub run: u8,
+}
+
+impl Carrier {
+    /// The reading after one more tick, with or without energy.
+    pub fn step(self, energy: bool, rise: u8, fall: u8) -> Carrier
+        ensures { result ≡ carrier_step self energy rise fall }
+    {
+        if energy == self.on {
+            return Carrier {
+                on: self.on,
+                run: 0,
+            };
+        }
+        let limit = if self.on { fall } else { rise };
+        if u16::from(self.run) + 1 >= u16::from(limit) {
+            Carrier { on: energy, run: 0 }
+        } else {
+            Carrier {
+                on: self.on,
+                run: self.run + 1,
+            }
+        }
+    }
+}

@@ -1,0 +1,23 @@
+//! The run of a segment: all nodes over one cable, tick by tick.
+//!
+//! The layer above uses that `Segment::tick` plays the next tick of the world of the script: it tells the
+//! watch exactly the events of that tick, in the order of the report. That world stands in
+//! `specs/World.antt`, the table of a node without frames in `specs/Node.antt`, its parts in
+//! `specs/Carrier.antt`, `specs/Receiver.antt` and `specs/Transmitter.antt`, and the relation between a
+//! segment and its script in `specs/Stands.antt`.
+#![tactic(auto)]
+
+mod carrier;
+pub mod laws;
+mod node;
+mod phases;
+mod receiver;
+mod segment;
+mod totals;
+mod track;
+mod transmitter;
+mod watch;
+
+pub use segment::Segment;
+pub use totals::NodeTotals;
+pub use watch::{Event, Watch};

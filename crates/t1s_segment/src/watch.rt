@@ -1,0 +1,22 @@
+/// What happens in a run, with its tick and the number of its node.
+#[derive(Clone, Copy, PartialEq, Eq, Debug)]
+pub enum Event {
+    /// The PLCA status of the node became OK, or ceased to be.
+    StatusIs { tick: u64, node: u8, ok: bool },
+    /// A drive of the node begins with a beacon.
+    Beacon { tick: u64, node: u8 },
+    /// The first tick without drive after a drive of the node.
+    Quiet { tick: u64, node: u8 },
+}
+
+/// Who is told the events of a run. `sees` relates a watch before an event, the event, and the watch
+/// after it.
+pub trait Watch {
+    ghost use Rattle.t1s_segment.specs.Told.{Told, told};
+
+    ghost sees: { Self → Told → Self → Type 0 };
+
+    /// Takes an event.
+    fn event(&mut self, e: &Event)
+        ensures { sees self.old (told e.now) self.new };
+}

@@ -1,0 +1,5 @@
+pub mod Judged
+pub mod Beginnings
+pub mod Faults
+pub mod Sent
+pub mod Text

@@ -1,0 +1,99 @@
+//! `Mac`, the machine that a node steps once a tick.
+ghost use Rattle.std.specs.Prelude.{◌≡◌, ◌<◌, ◌↔◌, IsOk, IsErr, OnOk, IfErr, Some, IsSome, length};
+ghost use Rattle.t1s_ring.specs.Queue.{with_last, IsQueue};
+ghost use Rattle.t1s_mac.specs.Mac.{mac_step, LeavesByNote};
+ghost use Rattle.t1s_mac.specs.State.{mac_start, IsMac, number_of, with_queue};
+
+use crate::deference::Deference;
+use crate::states::{Resting, State};
+use crate::{Draws, MacStep};
+use std::marker::Model;
+use t1s_ring::{FrameRing, Queued};
+
+/// A half-duplex MAC with its queue of frames. Contracts see it as a `MacState`.
+#[derive(Drop)]
+pub struct Mac<D> {
+    state: State,
+    deference: Deference,
+    attempts: u8,
+    draws: D,
+}
+
+impl<D> Model for Mac<D> {
+    ghost use Rattle.t1s_mac.specs.State.{MacState, IsMac, phase_of, queue_of};
+
+    ghost Value = { MacState D };
+
+    ghost view = { λ mac. record { phase = phase_of mac.state; queue = queue_of mac.state; deference = mac.deference; attempts = mac.attempts; draws = mac.draws } };
+
+    ghost invariant = { λ mac. IsMac (record { phase = phase_of mac.state; queue = queue_of mac.state; deference = mac.deference; attempts = mac.attempts; draws = mac.draws }) };
+}
+
+impl<D: Draws> Mac<D> {
+    /// A MAC at rest over a ring of frames, which takes the line for busy until its carrier is off.
+    pub fn start(ring: FrameRing, draws: D) -> Mac<D>
+        ensures { result ≡ mac_start ring draws }
+    {
+        Mac {
+            state: State::Resting(Resting { ring }),
+            deference: Deference::Busy,
+            attempts: 0,
+            draws,
+        }
+    }
+
+    /// Appends a frame at the back of the queue, also while the head is being sent. A queue that holds as
+    /// many frames as its room, the head counted, stays as it is, and hands the frame back.
+    pub fn offer(&mut self, q: Queued) -> Result<(), Queued>
+        ensures taken { IsOk result ↔ (length self.old.queue.frames < self.old.queue.room) }
+        ensures full { IsErr result ↔ (length self.old.queue.frames ≡ self.old.queue.room) }
+        ensures ok { OnOk result (self.new ≡ with_queue self.old (with_last self.old.queue q)) }
+        ensures err { IfErr result (λ back. (back ≡ q) × (self.new ≡ self.old)) }
+        ensures bounds { IsMac self.new }
+    {
+        match &mut self.state {
+            State::Resting(resting) => resting.ring.offer(q),
+            State::Deferring(deferring) => deferring.ring.offer(q),
+            State::Waiting(waiting) => waiting.ring.offer(q),
+            State::Sending(sending) => sending.ring.offer(q),
+            State::Jamming(jamming) => jamming.ring.offer(q),
+        }
+    }
+
+    /// The number of the frame that is being sent, or whose collision is made known, and None in the
+    /// other states.
+    pub fn number(&self) -> Option<u16>
+        ensures number { result ≡ number_of self.now }
+        ensures bounds { IsMac self.now }
+    {
+        match &self.state {
+            State::Sending(sending) => Some(sending.ring.head().number),
+            State::Jamming(jamming) => Some(jamming.ring.head().number),
+            State::Resting(_) | State::Deferring(_) | State::Waiting(_) => None,
+        }
+    }
+
+    /// One tick, by the carrier and the collision that the data path signals.
+    pub fn step(self, carrier: bool, collision: bool) -> (Mac<D>, MacStep)
+        ensures step { result ≡ mac_step D.answer D.after self carrier collision }
+        ensures leaves { LeavesByNote result.1.note self.queue result.0.queue }
+        ensures bounds { IsMac result.0 }
+    {
+        let Mac {
+            state,
+            deference,
+            attempts,
+            mut draws,
+        } = self;
+        let may_start = deference.may_start(carrier);
+        let sending = state.is_sending();
+        let turn = state.step(attempts, may_start, collision, &mut draws);
+        let mac = Mac {
+            state: turn.state,
+            deference: deference.after_tick(carrier, sending, turn.starts),
+            attempts: turn.attempts,
+            draws,
+        };
+        (mac, turn.step)
+    }
+}

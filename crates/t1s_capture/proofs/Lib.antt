@@ -1,0 +1,10 @@
+pub mod Texts
+pub mod Following
+pub mod Marks
+pub mod Moves
+pub mod Reasons
+pub mod Outcomes
+pub mod HeaderOutcomes
+pub mod FirstOffences
+pub mod Steps
+pub mod Readings

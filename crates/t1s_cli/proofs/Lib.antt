@@ -1,0 +1,6 @@
+pub mod Puts
+pub mod Ascending
+pub mod Text
+pub mod Ends
+mod ThinScripts
+pub mod WholeInput

@@ -1,0 +1,45 @@
+-- The lines that are written. Numbers are plain decimal.
+use Rattle.std.specs.Prelude.{ℕ, List, [], ◌∷◌, ◌++◌, Option, None, Some, if◌then◌else◌, codes, decimal}
+use Rattle.std.specs.List.{join_with_byte}
+use Rattle.t1s_script.specs.declared.refusals.ScriptRefusal.{ScriptRefusal}
+use Rattle.t1s_script.specs.declared.refusals.ScriptReason.{ScriptReason}
+use Rattle.t1s_script.specs.declared.refusals.ScriptReason.TheVariants.{TooLong, FirstLine, UnknownWord}
+use Rattle.t1s_segment.specs.declared.totals.NodeTotals.{NodeTotals}
+use Rattle.t1s_segment.specs.Told.{Told, StatusTold, BeaconTold, QuietTold}
+
+-- a line: its fields with a space between each two, and LF
+abbrev pub line : List (List ℕ) → List ℕ
+line fields = join_with_byte 32 fields ++ 10 ∷ []
+
+-- the line of an event: the tick, what happened, the number of the node
+abbrev pub told_line : Told → List ℕ
+told_line (StatusTold tick node ok) = line (decimal tick ∷ codes "status" ∷ decimal node ∷ (if ok then codes "ok" else codes "lost") ∷ [])
+told_line (BeaconTold tick node) = line (decimal tick ∷ codes "beacon" ∷ decimal node ∷ [])
+told_line (QuietTold tick node) = line (decimal tick ∷ codes "quiet" ∷ decimal node ∷ [])
+
+-- the line of the first tick in which every status was OK
+abbrev pub settled_line : Option ℕ → List ℕ
+settled_line None = line (codes "settled" ∷ codes "never" ∷ [])
+settled_line (Some tick) = line (codes "settled" ∷ decimal tick ∷ [])
+
+-- the line of what was counted at a node
+abbrev pub totals_line : NodeTotals → List ℕ
+totals_line n = line (
+    codes "node" ∷ decimal n.node ∷
+    codes "sent" ∷ decimal n.sent ∷
+    codes "full" ∷ decimal n.full ∷
+    codes "jam" ∷ decimal n.jam ∷
+    codes "drop" ∷ decimal n.drop ∷
+    codes "good" ∷ decimal n.good ∷
+    codes "bad" ∷ decimal n.bad ∷
+    codes "clash" ∷ decimal n.clash ∷ [])
+
+-- the name of a reason
+abbrev pub reason_name : ScriptReason → List ℕ
+reason_name TooLong = codes "TooLong"
+reason_name FirstLine = codes "FirstLine"
+reason_name UnknownWord = codes "UnknownWord"
+
+-- the line of a refusal
+abbrev pub refused_line : ScriptRefusal → List ℕ
+refused_line r = line (codes "refused" ∷ decimal r.line ∷ reason_name r.reason ∷ [])

@@ -1,0 +1,20 @@
+// What the words of the command line ask for.
+ghost use Rattle.std.specs.Prelude.{◌≡◌, ◌↔◌, IsSome, IfSome, Some};
+ghost use Rattle.t1s_cli.specs.Words.{AreRun};
+
+/// A row of the table of commands.
+#[derive(Clone, Copy, PartialEq, Eq, Debug)]
+pub(crate) enum Command {
+    /// `run`: reads a script and writes the report of its run.
+    Run,
+}
+
+/// The row that the words are, if they are one.
+pub(crate) fn command_of(words: &[String]) -> Option<Command>
+    ensures { (result ≡ Some Command.Run) ↔ AreRun words.now }
+{
+    match words {
+        [word] if word.as_bytes() == b"run".as_slice() => Some(Command::Run),
+        _ => None,
+    }
+}

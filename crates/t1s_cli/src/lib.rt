@@ -1,0 +1,23 @@
+//! All that the program does, as one call over a source and a sink.
+//!
+//! The program uses that `workbench` writes the report of the run of the script that it reads, and that
+//! each of its answers has the cause that its clauses name. The report stands in `specs/Report.antt`, the
+//! lines in `specs/Text.antt`, the words of a command in `specs/Words.antt`, what is written and answered
+//! after the reading in `specs/Answers.antt`, and what a writer does with a text in `specs/Writing.antt`.
+#![tactic(auto)]
+
+mod commands;
+mod lines;
+mod playing;
+mod reading;
+mod status;
+mod summary;
+mod top;
+mod writer;
+
+pub use playing::play;
+pub use status::Status;
+pub use top::workbench;
+
+#[cfg(test)]
+mod tests;

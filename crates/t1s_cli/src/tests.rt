@@ -1,0 +1,165 @@
+ghost use Rattle.std.specs.Prelude.{Some};
+
+use crate::{Status, play, workbench};
+use std::alloc::{AllocError, Global};
+use std::test::Fail;
+use t1s_base::{Failed, MemSink, MemSource, QuietSource, Source};
+use t1s_script::read_script;
+use t1s_segment::Segment;
+
+const SCRIPT: &[u8] = b"t1s 1\ncount 3\nnode 0 0 0\nnode 1 1 2\nnode 2 2 5\nend 9000\n";
+
+const REPORT: &[u8] =
+    b"8256 status 0 ok\n8256 beacon 0\n8276 quiet 0\n8282 status 1 ok\n8285 status 2 ok\n\
+8376 beacon 0\n8396 quiet 0\n8496 beacon 0\n8516 quiet 0\n8616 beacon 0\n8636 quiet 0\n\
+8736 beacon 0\n8756 quiet 0\n8856 beacon 0\n8876 quiet 0\n8976 beacon 0\n8996 quiet 0\n\
+settled 8285\n\
+node 0 sent 0 full 0 jam 0 drop 0 good 0 bad 0 clash 0\n\
+node 1 sent 0 full 0 jam 0 drop 0 good 0 bad 0 clash 0\n\
+node 2 sent 0 full 0 jam 0 drop 0 good 0 bad 0 clash 0\n";
+
+const EARLY: &[u8] = b"t1s 1\ncount 3\nnode 0 0 0\nnode 1 1 2\nnode 2 2 5\nend 8256\n";
+
+const NEVER_SETTLED: &[u8] = b"settled never\n\
+node 0 sent 0 full 0 jam 0 drop 0 good 0 bad 0 clash 0\n\
+node 1 sent 0 full 0 jam 0 drop 0 good 0 bad 0 clash 0\n\
+node 2 sent 0 full 0 jam 0 drop 0 good 0 bad 0 clash 0\n";
+
+const NO_END: &[u8] = b"t1s 1\ncount 3\nnode 0 0 0\nnode 1 1 2\nnode 2 2 5\n";
+
+/// The words, each one owned.
+fn owned(alloc: Global, words: &[&str]) -> Result<Vec<String>, AllocError> {
+    let mut all = Vec::new(alloc);
+    for word in words {
+        all.push(String::from_str(alloc, word)?)?;
+    }
+    Ok(all)
+}
+
+/// Calls the program over a source and an empty sink, and answers the status and what was written.
+fn call<S: Source + Drop>(
+    alloc: Global,
+    words: &[&str],
+    mut source: S,
+    fails: &[u64],
+) -> Result<(Status, Vec<u8>), AllocError> {
+    let words = owned(alloc, words)?;
+    let mut sink = MemSink::with_room(alloc, 4096, Vec::from_slice(alloc, fails)?)?;
+    let status = workbench(alloc, words.as_slice(), &mut source, &mut sink);
+    Ok((status, Vec::from_slice(alloc, sink.written())?))
+}
+
+#[test]
+fn each_answer_has_its_text(rt: HostRuntime) -> Result<(), Fail> {
+    let run: &[&str] = &["run"];
+    let none: &[u64] = &[];
+    let table = [
+        (run, SCRIPT, none, none, Status::Done, REPORT),
+        (run, EARLY, none, none, Status::Done, NEVER_SETTLED),
+        (
+            run,
+            b"".as_slice(),
+            none,
+            none,
+            Status::Refused,
+            b"refused 1 FirstLine\n".as_slice(),
+        ),
+        (
+            run,
+            b"t1s 1\nto 40\n".as_slice(),
+            none,
+            none,
+            Status::Refused,
+            b"refused 2 UnknownWord\n".as_slice(),
+        ),
+        (
+            run,
+            NO_END,
+            none,
+            none,
+            Status::Refused,
+            b"refused 6 UnknownWord\n".as_slice(),
+        ),
+        (&[], SCRIPT, none, none, Status::Usage, b"".as_slice()),
+        (
+            &["run", "run"],
+            SCRIPT,
+            none,
+            none,
+            Status::Usage,
+            b"".as_slice(),
+        ),
+        (
+            &["capture", "16"],
+            SCRIPT,
+            none,
+            none,
+            Status::Usage,
+            b"".as_slice(),
+        ),
+        (
+            &["capture", "01"],
+            SCRIPT,
+            none,
+            none,
+            Status::Usage,
+            b"".as_slice(),
+        ),
+        (run, SCRIPT, &[2], none, Status::ReadFault, b"".as_slice()),
+        (
+            run,
+            SCRIPT,
+            none,
+            &[2],
+            Status::WriteFault,
+            b"8256 status 0 ok\n".as_slice(),
+        ),
+        (run, SCRIPT, none, &[22], Status::WriteFault, REPORT),
+    ];
+    for (words, input, read_fails, write_fails, status, text) in table {
+        let source = MemSource::new(
+            Vec::from_slice(rt.alloc(), input)?,
+            Vec::from_slice(rt.alloc(), read_fails)?,
+        );
+        let (answer, written) = call(rt.alloc(), words, source, write_fails)?;
+        assert_eq!(rt; answer, status);
+        assert_eq!(rt; written.as_slice(), text);
+    }
+    Ok(())
+}
+
+/// Gives one octet a read.
+#[derive(Drop)]
+struct OneByOne {
+    octets: QuietSource,
+}
+
+impl Source for OneByOne {
+    ghost left = { λ source. Some source.octets };
+
+    ghost faults = { λ _. 0 };
+
+    fn read(&mut self, into: &mut [u8]) -> Result<usize, Failed> {
+        self.octets.read(&mut into[..1])
+    }
+}
+
+#[test]
+fn the_pieces_of_the_input_change_nothing(rt: HostRuntime) -> Result<(), Fail> {
+    let octets = QuietSource::new(Vec::from_slice(rt.alloc(), SCRIPT)?);
+    let (answer, written) = call(rt.alloc(), &["run"], OneByOne { octets }, &[])?;
+    assert_eq!(rt; answer, Status::Done);
+    assert_eq!(rt; written.as_slice(), REPORT);
+    Ok(())
+}
+
+#[test]
+fn a_new_segment_is_played_to_its_end(rt: HostRuntime) -> Result<(), Fail> {
+    let script = read_script(rt.alloc(), SCRIPT)?;
+    let mut segment = Segment::new(rt.alloc(), &script)?;
+    let mut sink = MemSink::with_room(rt.alloc(), 4096, Vec::new(rt.alloc()))?;
+    assert_eq!(rt; play(&mut segment, &mut sink), Ok(()));
+    assert!(rt; segment.at_end());
+    assert_eq!(rt; sink.written(), REPORT);
+    Ok(())
+}

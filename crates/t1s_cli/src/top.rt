@@ -1,0 +1,128 @@
+// All that the program does.
+ghost use Rattle.std.specs.Prelude.{◌≡◌, ◌≢◌, ◌⊎◌, ◌↔◌, ◌≤◌, ℕ, List, [], true, Ok, Err, Some, IsOk, IsErr, drop};
+ghost use Rattle.t1s_base.specs.Causes.{Rose};
+ghost use Rattle.t1s_base.specs.Octets.{Grows, GrowsByFront};
+ghost use Rattle.t1s_script.specs.Reading.{script_of};
+ghost use Rattle.t1s_script.specs.Script.{IsScript};
+ghost use Rattle.t1s_script.specs.declared.script.Script.{Script};
+ghost use Rattle.t1s_script.specs.declared.refusals.ScriptRefusal.{ScriptRefusal};
+ghost use Rattle.t1s_cli.specs.Answers.{Ends, status_after, text_after};
+ghost use Rattle.t1s_cli.specs.Beacons.{HasBeacons};
+ghost use Rattle.t1s_cli.specs.Report.{report};
+ghost use Rattle.t1s_cli.specs.Text.{refused_line};
+ghost use Rattle.t1s_cli.specs.Words.{AreRun, AreCommand};
+
+use crate::commands::{Command, command_of};
+use crate::lines::refused_line;
+use crate::playing::play;
+use crate::reading::{ReadStop, read_whole};
+use crate::status::Status;
+use std::alloc::Global;
+use t1s_base::{Line, Sink, Source};
+use t1s_script::{Script, ScriptFault, ScriptRefusal, read_script};
+use t1s_segment::Segment;
+
+/// Finishes a sink to which all was written.
+fn finish<K: Sink>(sink: &mut K, whole: Status) -> Status
+    requires { whole ≢ Status.WriteFault }
+    ensures answer { (result ≡ whole) ⊎ (result ≡ Status.WriteFault) }
+    ensures end { result ≡ whole → K.finished sink.new ≡ true }
+    ensures octets { K.written sink.new ≡ K.written sink.old }
+    ensures later { K.faults sink.old ≤ K.faults sink.new }
+    ensures rose { result ≡ Status.WriteFault → Rose (K.faults sink.old) (K.faults sink.new) }
+    ensures kept { result ≢ Status.WriteFault → K.faults sink.new ≡ K.faults sink.old }
+{
+    match sink.finish() {
+        Ok(()) => whole,
+        Err(_) => Status::WriteFault,
+    }
+}
+
+/// Writes the line of a refusal.
+fn refuse<K: Sink>(refusal: &ScriptRefusal, sink: &mut K) -> Status
+    ensures { Ends K.written K.faults K.finished Status.Refused (refused_line refusal.now) sink.old sink.new result }
+{
+    let line = refused_line(refusal);
+    match sink.write(line.as_slice()) {
+        Ok(()) => finish(sink, Status::Refused),
+        Err(_) => Status::WriteFault,
+    }
+}
+
+/// Writes the report of a script's run.
+fn run_script<K: Sink>(alloc: Global, script: &Script, sink: &mut K) -> Status
+    requires { IsScript script.now }
+    ensures { Ends K.written K.faults K.finished Status.Done (report script.now) sink.old sink.new result }
+{
+    match Segment::new(alloc, script) {
+        Ok(mut seg) => match play(&mut seg, sink) {
+            Ok(()) => finish(sink, Status::Done),
+            Err(_) => Status::WriteFault,
+        },
+        Err(_) => Status::Memory,
+    }
+}
+
+/// Reads the octets of a script and writes the report of its run, or why it is refused.
+fn run_octets<K: Sink>(alloc: Global, bytes: &[u8], sink: &mut K) -> Status
+    ensures { Ends K.written K.faults K.finished (status_after (script_of bytes.now)) (text_after (script_of bytes.now)) sink.old sink.new result }
+{
+    match read_script(alloc, bytes) {
+        Ok(script) => run_script(alloc, &script, sink),
+        Err(ScriptFault::Refused(refusal)) => refuse(&refusal, sink),
+        Err(ScriptFault::Memory(_)) => Status::Memory,
+    }
+}
+
+/// Does all that the program does: takes the words of the command line, reads the source and writes to
+/// the sink.
+///
+/// With the one word `run` it reads a script to its end, in pieces of at most 4096 octets and up to the
+/// octet 1,048,577, and writes the report of the script's run, each line by one `write` call.
+pub fn workbench<S: Source, K: Sink>(
+    alloc: Global,
+    words: &[String],
+    source: &mut S,
+    sink: &mut K,
+) -> Status
+    ensures usage { (result ≡ Status.Usage) ↔ ¬ (AreCommand words.now) }
+    ensures usage_reads_nothing { result ≡ Status.Usage → source.new ≡ source.old }
+    ensures usage_writes_nothing { result ≡ Status.Usage → sink.new ≡ sink.old }
+    ensures source_later { S.faults source.old ≤ S.faults source.new }
+    ensures read_fault { result ≡ Status.ReadFault → Rose (S.faults source.old) (S.faults source.new) }
+    ensures no_read_fault { result ≢ Status.ReadFault → S.faults source.new ≡ S.faults source.old }
+    ensures reads { (octets : List ℕ) → S.left source.old ≡ Some octets →
+        (result ≡ Status.Done) ⊎ ((result ≡ Status.Refused) ⊎ (result ≡ Status.WriteFault)) → S.left source.new ≡ Some (drop 1048577 octets) }
+    ensures read_fault_writes_nothing { result ≡ Status.ReadFault → sink.new ≡ sink.old }
+    ensures sink_later { K.faults sink.old ≤ K.faults sink.new }
+    ensures write_fault { result ≡ Status.WriteFault → Rose (K.faults sink.old) (K.faults sink.new) }
+    ensures no_write_fault { result ≢ Status.WriteFault → K.faults sink.new ≡ K.faults sink.old }
+    ensures write_fault_front { (octets : List ℕ) → S.left source.old ≡ Some octets → result ≡ Status.WriteFault →
+        GrowsByFront (K.written sink.old) (K.written sink.new) (text_after (script_of octets)) }
+    ensures memory_writes_nothing { result ≡ Status.Memory → sink.new ≡ sink.old }
+    ensures refused { (octets : List ℕ) → S.left source.old ≡ Some octets → result ≡ Status.Refused → IsErr (script_of octets) }
+    ensures refused_line { (octets : List ℕ) (refusal : ScriptRefusal) → S.left source.old ≡ Some octets → script_of octets ≡ Err refusal →
+        result ≡ Status.Refused → Grows (K.written sink.old) (K.written sink.new) (refused_line refusal) }
+    ensures refused_finishes { result ≡ Status.Refused → K.finished sink.new ≡ true }
+    ensures done { (octets : List ℕ) → S.left source.old ≡ Some octets → result ≡ Status.Done → IsOk (script_of octets) }
+    ensures done_report { (octets : List ℕ) (s : Script) → S.left source.old ≡ Some octets → script_of octets ≡ Ok s →
+        result ≡ Status.Done → Grows (K.written sink.old) (K.written sink.new) (report s) }
+    ensures done_reads_all { (octets : List ℕ) → S.left source.old ≡ Some octets → result ≡ Status.Done → S.left source.new ≡ Some [] }
+    ensures done_finishes { result ≡ Status.Done → K.finished sink.new ≡ true }
+    ensures script_is_played { (octets : List ℕ) (s : Script) → AreRun words.now → S.left source.old ≡ Some octets → script_of octets ≡ Ok s →
+        ¬ (Rose (S.faults source.old) (S.faults source.new)) → ¬ (Rose (K.faults sink.old) (K.faults sink.new)) →
+        (result ≡ Status.Done) ⊎ (result ≡ Status.Memory) }
+    ensures other_input_is_refused { (octets : List ℕ) (refusal : ScriptRefusal) → AreRun words.now → S.left source.old ≡ Some octets → script_of octets ≡ Err refusal →
+        ¬ (Rose (S.faults source.old) (S.faults source.new)) → ¬ (Rose (K.faults sink.old) (K.faults sink.new)) →
+        (result ≡ Status.Refused) ⊎ (result ≡ Status.Memory) }
+    ensures beacons { (octets : List ℕ) (s : Script) → AreRun words.now → S.left source.old ≡ Some octets → script_of octets ≡ Ok s → HasBeacons s }
+{
+    match command_of(words) {
+        Some(Command::Run) => match read_whole(alloc, source) {
+            Ok(bytes) => run_octets(alloc, bytes.as_slice(), sink),
+            Err(ReadStop::Failed) => Status::ReadFault,
+            Err(ReadStop::Memory) => Status::Memory,
+        },
+        None => Status::Usage,
+    }
+}

@@ -1,0 +1,56 @@
+// The watch that writes what it is told.
+ghost use Rattle.std.specs.Prelude.{◌≡◌, false};
+ghost use Rattle.t1s_cli.specs.Text.{told_line};
+ghost use Rattle.t1s_cli.specs.Writing.{Puts};
+
+use crate::lines::event_line;
+use t1s_base::{Line, Sink};
+use t1s_segment::{Event, Watch};
+
+/// Writes each line by one `write` call. After the first write that stops it writes nothing more.
+#[derive(Drop)]
+pub(crate) struct Writer<'a, K: Sink> {
+    pub(crate) sink: &'a mut K,
+    pub(crate) stopped: bool,
+}
+
+impl<'a, K: Sink> Writer<'a, K> {
+    /// A writer that hasn't stopped.
+    pub(crate) fn new(sink: &'a mut K) -> Writer<'a, K>
+        ensures same_reference { result.sink.ghost_name ≡ sink.entry.ghost_name }
+        ensures sink { result.sink.now ≡ sink.old }
+        ensures goes_on { result.stopped ≡ false }
+    {
+        Writer {
+            sink,
+            stopped: false,
+        }
+    }
+
+    /// Whether a write of this writer stopped.
+    pub(crate) fn stopped(&self) -> bool
+        ensures { result ≡ self.now.stopped }
+    {
+        self.stopped
+    }
+
+    /// Writes a line, unless a write stopped before.
+    pub(crate) fn put(&mut self, line: &Line)
+        ensures { Puts K.written K.faults self.old line.now self.new }
+    {
+        if !self.stopped {
+            self.stopped = self.sink.write(line.as_slice()).is_err();
+        }
+    }
+}
+
+impl<'a, K: Sink> Watch for Writer<'a, K> {
+    ghost sees = { λ before event after. Puts K.written K.faults before (told_line event) after };
+
+    /// Writes the line of the event.
+    fn event(&mut self, e: &Event) {
+        let mut line = Line::new();
+        event_line(&mut line, e);
+        self.put(&line);
+    }
+}

@@ -1,2 +1,4 @@
 pub mod Ranges
 pub mod DataPathTable
+pub mod Runs
+pub mod Laws

@@ -4,10 +4,11 @@
 //! would be too long it signals a collision, so that the MAC jams, and holds the MAC off by carrier until the
 //! opportunity comes; the frame is then sent anew. The layer above uses that `DataPath::step` is `data_path_step` over the
 //! list of the line, for every state and input: the table stands in `specs/DataPathTable.antt`, the ranges of
-//! its numbers in `specs/Ranges.antt`.
+//! its numbers in `specs/Ranges.antt`, and what holds in every run of it, in the module `laws`, in `specs/Laws.antt`.
 #![tactic(auto)]
 
 mod data_path;
+pub mod laws;
 
 pub use data_path::DataPath;
 use t1s_symbols::Class;

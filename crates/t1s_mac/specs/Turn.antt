@@ -1,5 +1,6 @@
 -- What a typed state's step leaves, as a row of the table.
 use Rattle.std.specs.Prelude.{◌≤◌, Bool, IsTrue}
+use Rattle.plca_data.specs.Ranges.{IsMacOut}
 use Rattle.t1s_mac.specs.Mac.{Row}
 use Rattle.t1s_mac.specs.State.{phase_of, queue_of, holds_frame}
 use Rattle.t1s_mac.specs.declared.states.Turn.{Turn}
@@ -19,4 +20,7 @@ row_left turn drew =
 
 -- what holds of every turn
 abbrev pub IsTurn : Turn → Type 0
-IsTurn turn = IsTrue (holds_frame (phase_of turn.state) (queue_of turn.state)) × (turn.attempts ≤ 15)
+IsTurn turn =
+    IsTrue (holds_frame (phase_of turn.state) (queue_of turn.state))
+    × (turn.attempts ≤ 15)
+    × IsMacOut turn.step.out

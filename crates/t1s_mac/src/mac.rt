@@ -1,5 +1,6 @@
 //! `Mac`, the machine that a node steps once a tick.
 ghost use Rattle.std.specs.Prelude.{◌≡◌, ◌<◌, ◌↔◌, IsOk, IsErr, OnOk, IfErr, Some, IsSome, length};
+ghost use Rattle.plca_data.specs.Ranges.{IsMacOut};
 ghost use Rattle.t1s_ring.specs.Queue.{with_last, IsQueue};
 ghost use Rattle.t1s_mac.specs.Mac.{mac_step, LeavesByNote};
 ghost use Rattle.t1s_mac.specs.State.{mac_start, IsMac, number_of, with_queue};
@@ -73,9 +74,10 @@ impl<D: Draws> Mac<D> {
         }
     }
 
-    /// One tick, by the carrier and the collision that the data path signals.
+    /// One tick, by the carrier and the collision that the data path signals. A nibble that is given out is below 16.
     pub fn step(self, carrier: bool, collision: bool) -> (Mac<D>, MacStep)
         ensures step { result ≡ mac_step D.answer D.after self carrier collision }
+        ensures nibble { IsMacOut result.1.out }
         ensures leaves { LeavesByNote result.1.note self.queue result.0.queue }
         ensures bounds { IsMac result.0 }
     {

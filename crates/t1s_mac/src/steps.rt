@@ -46,6 +46,7 @@ fn count_of_head(ring: &LentRing) -> u16
 fn nibble_of_head(ring: &LentRing, place: u16) -> u8
     ensures nibble { result ≡ slice_index (head_nibbles ring.now) place }
     ensures some { 0 < length (head_nibbles ring.now) }
+    ensures range { result < 16 }
 {
     ring.head().frame.nibble_at(place).unwrap_or(0)
 }

@@ -10,6 +10,7 @@ use Rattle.plca_data.specs.declared.MacOut.{MacOut}
 use Rattle.plca_data.specs.declared.MacOut.TheVariants.{Nothing, Nibble, Ended}
 use Rattle.plca_data.specs.declared.data_path.State.{State}
 use Rattle.plca_data.specs.declared.data_path.State.TheVariants.{Silent, Idle, Hold, Collide, DelayPending, Pending, WaitMac, Transmit}
+use Rattle.plca_data.specs.Ranges.{pending_ticks}
 
 -- the state in which the data path starts
 abbrev pub data_path_start : State
@@ -130,7 +131,7 @@ hold i line =
 abbrev pub collide : DataIn → List ℕ → State × List ℕ
 collide i line =
     if is_ended i.mac && not i.active then (Silent, line)
-    else if is_ended i.mac then (DelayPending 512, line)
+    else if is_ended i.mac then (DelayPending pending_ticks, line)
     else (Collide, line)
 
 abbrev pub delay_pending : ℕ → DataIn → List ℕ → State × List ℕ

@@ -1,5 +1,5 @@
 -- The ranges of the numbers that the data path takes and keeps.
-use Rattle.std.specs.Prelude.{◌<◌, Bool, true, ◌&&◌, nat_le}
+use Rattle.std.specs.Prelude.{ℕ, ◌<◌, Bool, true, ◌&&◌, nat_le}
 use Rattle.plca_data.specs.declared.MacOut.{MacOut}
 use Rattle.plca_data.specs.declared.MacOut.TheVariants.{Nothing, Nibble, Ended}
 use Rattle.plca_data.specs.declared.data_path.State.{State}
@@ -11,13 +11,17 @@ IsMacOut Nothing = Unit {0}
 IsMacOut (Nibble x) = x < 16
 IsMacOut Ended = Unit {0}
 
--- the count of DelayPending runs from 512 down to 1
+-- how long a jammed frame waits until it may be sent anew, in ticks
+abbrev pub pending_ticks : ℕ
+pending_ticks = 512
+
+-- the count of DelayPending runs from there down to 1
 abbrev pub in_range : State → Bool
 in_range Silent = true
 in_range Idle = true
 in_range Hold = true
 in_range Collide = true
-in_range (DelayPending n) = nat_le 1 n && nat_le n 512
+in_range (DelayPending n) = nat_le 1 n && nat_le n pending_ticks
 in_range Pending = true
 in_range WaitMac = true
 in_range (Transmit ended bad) = true

@@ -1,5 +1,5 @@
 //! `DataPath`, the machine that a node steps once a tick.
-ghost use Rattle.std.specs.Prelude.{◌≡◌, ℕ, ◌&&◌, IsTrue, List, []};
+ghost use Rattle.std.specs.Prelude.{◌≡◌, ℕ, false, ◌&&◌, IsTrue, List, []};
 ghost use Rattle.plca_data.specs.DataPathTable.{data_path_start, carrier, collision, ready, begun, ended, bad, idle, hold, collide, delay_pending, pending, wait_mac, transmit, data_path_step, is_nibble, is_full, pushed};
 ghost use Rattle.plca_data.specs.Ranges.{IsMacOut, in_range};
 
@@ -74,6 +74,19 @@ fn lose(line: &mut DelayLine) -> State
     State::Collide
 }
 
+/// The frame begins to go through the line, with the nibble that the MAC gives, if it gives one.
+fn begin(mac: MacOut, line: &mut DelayLine) -> State
+    requires { IsMacOut mac }
+    ensures state { result ≡ State.Transmit false false }
+    ensures line { line.new ≡ pushed mac line.old }
+{
+    let _refused = push(mac, line);
+    State::Transmit {
+        ended: false,
+        bad: false,
+    }
+}
+
 /// The rows of `Silent` and `Idle`, and of each state that has lost the opportunity.
 fn idle(inp: DataIn, line: &mut DelayLine) -> State
     requires { IsMacOut inp.mac }
@@ -97,27 +110,19 @@ fn hold(inp: DataIn, line: &mut DelayLine) -> State
     ensures row { (result, line.new) ≡ hold inp line.old }
     ensures range { IsTrue (in_range result) }
 {
-    if !inp.active {
-        return lose(line);
-    }
-    if inp.own {
-        let _refused = push(inp.mac, line);
-        return State::Transmit {
-            ended: false,
-            bad: false,
-        };
-    }
-    if inp.crs && matches!(inp.class, Class::Run | Class::Other) {
-        return lose(line);
-    }
-    let refused = push(inp.mac, line);
     match inp.mac {
-        MacOut::Nibble(_) if refused => lose(line),
-        MacOut::Nibble(_) | MacOut::Nothing => State::Hold,
+        _ if !inp.active => lose(line),
+        _ if inp.own => begin(inp.mac, line),
+        _ if inp.crs && matches!(inp.class, Class::Run | Class::Other) => lose(line),
+        MacOut::Nibble(nibble) => match line.push(nibble) {
+            Ok(()) => State::Hold,
+            Err(_) => lose(line),
+        },
         MacOut::Ended => {
             line.clear();
             State::Idle
         }
+        MacOut::Nothing => State::Hold,
     }
 }
 
@@ -166,17 +171,9 @@ fn wait_mac(inp: DataIn, line: &mut DelayLine) -> State
     ensures row { (result, line.new) ≡ wait_mac inp line.old }
     ensures range { IsTrue (in_range result) }
 {
-    if !inp.own {
-        return idle(inp, line);
-    }
     match inp.mac {
-        MacOut::Nibble(_) => {
-            let _refused = push(inp.mac, line);
-            State::Transmit {
-                ended: false,
-                bad: false,
-            }
-        }
+        _ if !inp.own => idle(inp, line),
+        MacOut::Nibble(_) => begin(inp.mac, line),
         MacOut::Nothing | MacOut::Ended => State::WaitMac,
     }
 }
@@ -187,17 +184,18 @@ fn transmit(ended: bool, bad: bool, inp: DataIn, line: &mut DelayLine) -> State
     ensures row { (result, line.new) ≡ transmit ended bad inp line.old }
     ensures range { IsTrue (in_range result) }
 {
-    if !inp.own {
+    if !inp.own || inp.closed {
         line.clear();
+    }
+    if !inp.own {
         return idle(inp, line);
     }
     if inp.closed {
-        line.clear();
         return State::WaitMac;
     }
     let refused = push(inp.mac, line);
     State::Transmit {
-        ended: ended || matches!(inp.mac, MacOut::Ended),
+        ended: ended || inp.mac == MacOut::Ended,
         bad: bad || inp.hit || refused,
     }
 }
@@ -269,8 +267,9 @@ impl DataPath {
         }
     }
 
-    /// One tick of the table of the data path, which pushes to the line and clears it. The line holds at most 97
-    /// nibbles, the oldest first; where it is full and the table doesn't say otherwise, it stays as it is.
+    /// One tick of the table of the data path, which pushes the MAC's nibble to the line or clears the line. It asks
+    /// that this nibble is below 16. A line that holds 97 nibbles refuses a push and stays as it is: a frame that
+    /// waits then meets a collision, one that goes through the line becomes a bad piece, and each other row goes on.
     pub fn step(self, inp: DataIn, line: &mut DelayLine) -> DataPath
         requires { IsMacOut inp.mac }
         ensures row { (result, line.new) ≡ data_path_step self inp line.old }

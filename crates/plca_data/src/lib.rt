@@ -11,6 +11,10 @@ mod data_path;
 pub mod laws;
 
 pub use data_path::DataPath;
+
+#[cfg(test)]
+mod tests;
+
 use t1s_symbols::Class;
 
 /// What a MAC gives out in one tick.

@@ -4,3 +4,8 @@ pub mod Text
 pub mod Ends
 mod ThinScripts
 pub mod WholeInput
+pub mod BeyondOctets
+pub mod DecodeText
+pub mod DecodeSteps
+pub mod DecodingLemmas
+pub mod WholeDecoding

@@ -5,3 +5,8 @@ pub eight_counts : (w1 d1 w2 d2 w3 d3 w4 d4 w5 d5 w6 d6 w7 d7 w8 d8 e : List ℕ
     w1 ++ d1 ++ w2 ++ d2 ++ w3 ++ d3 ++ w4 ++ d4 ++ w5 ++ d5 ++ w6 ++ d6 ++ w7 ++ d7 ++ w8 ++ d8 ++ e
     ≡ (w1 ++ (d1 ++ (w2 ++ (d2 ++ (w3 ++ (d3 ++ (w4 ++ (d4 ++ (w5 ++ (d5 ++ (w6 ++ (d6 ++ (w7 ++ (d7 ++ (w8 ++ d8))))))))))))))) ++ e
 eight_counts w1 d1 w2 d2 w3 d3 w4 d4 w5 d5 w6 d6 w7 d7 w8 d8 e = ap (λ (r : List ℕ). r ++ e) (simp append_assoc)
+
+pub seven_counts : (w1 d1 w2 d2 w3 d3 w4 d4 w5 d5 w6 d6 w7 d7 e : List ℕ) →
+    w1 ++ d1 ++ w2 ++ d2 ++ w3 ++ d3 ++ w4 ++ d4 ++ w5 ++ d5 ++ w6 ++ d6 ++ w7 ++ d7 ++ e
+    ≡ (w1 ++ (d1 ++ (w2 ++ (d2 ++ (w3 ++ (d3 ++ (w4 ++ (d4 ++ (w5 ++ (d5 ++ (w6 ++ (d6 ++ (w7 ++ d7))))))))))))) ++ e
+seven_counts w1 d1 w2 d2 w3 d3 w4 d4 w5 d5 w6 d6 w7 d7 e = ap (λ (r : List ℕ). r ++ e) (simp append_assoc)

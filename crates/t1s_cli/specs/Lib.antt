@@ -4,3 +4,6 @@ pub mod Writing
 pub mod Words
 pub mod Answers
 pub mod Beacons
+pub mod DecodeText
+pub mod Decoded
+pub mod Decoding

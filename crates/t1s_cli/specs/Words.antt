@@ -1,5 +1,5 @@
 -- The words of the command line that the program takes.
-use Rattle.std.specs.Prelude.{◌≡◌, List, [], ◌∷◌, map, codes}
+use Rattle.std.specs.Prelude.{◌≡◌, ◌⊎◌, List, [], ◌∷◌, map, codes}
 use Rattle.std.specs.String.{string_bytes}
 use Rattle.std.specs.declared.string.String.{String}
 use Rattle.std.proofs.Common.{Global}
@@ -8,6 +8,10 @@ use Rattle.std.proofs.Common.{Global}
 abbrev pub AreRun : List (String Global) → Type 0
 AreRun words = map string_bytes words ≡ codes "run" ∷ []
 
+-- the one word `decode`
+abbrev pub AreDecode : List (String Global) → Type 0
+AreDecode words = map string_bytes words ≡ codes "decode" ∷ []
+
 -- the words are a row of the table of commands
 abbrev pub AreCommand : List (String Global) → Type 0
-AreCommand words = AreRun words
+AreCommand words = AreRun words ⊎ AreDecode words

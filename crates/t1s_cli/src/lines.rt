@@ -67,7 +67,7 @@ pub(crate) fn settled_line(settled: Option<u64>) -> Line
 }
 
 /// Appends a word with the spaces round it, and a number, where all of it fits.
-fn count(out: &mut Line, word: &[u8], n: u64)
+pub(crate) fn count(out: &mut Line, word: &[u8], n: u64)
     requires { length out.old + length word.now + 20 ≤ 4096 }
     ensures value { out.new ≡ out.old ++ word.now ++ decimal n }
     ensures len { length out.new ≤ length out.old + length word.now + 20 }

@@ -1,52 +1,39 @@
 // All that the program does.
-ghost use Rattle.std.specs.Prelude.{◌≡◌, ◌≢◌, ◌⊎◌, ◌↔◌, ◌≤◌, ℕ, List, [], true, Ok, Err, Some, IsOk, IsErr, drop};
+ghost use Rattle.std.specs.Prelude.{◌≡◌, ◌≢◌, ◌⊎◌, ◌↔◌, ◌^◌, ◌≤◌, ℕ, List, [], length, true, Ok, Err, Some, IsOk, IsErr, drop};
 ghost use Rattle.t1s_base.specs.Causes.{Rose};
-ghost use Rattle.t1s_base.specs.Octets.{Grows, GrowsByFront};
+ghost use Rattle.t1s_base.specs.Octets.{Gives, Grows, GrowsByFront};
 ghost use Rattle.t1s_script.specs.Reading.{script_of};
 ghost use Rattle.t1s_script.specs.Script.{IsScript};
 ghost use Rattle.t1s_script.specs.declared.script.Script.{Script};
 ghost use Rattle.t1s_script.specs.declared.refusals.ScriptRefusal.{ScriptRefusal};
+ghost use Rattle.t1s_capture.specs.declared.items.Refusal.{Refusal};
+ghost use Rattle.t1s_capture.specs.Captures.{IsCapture, IsCapturePrefix};
+ghost use Rattle.t1s_capture.specs.Offences.{IsFirstOffence};
 ghost use Rattle.t1s_cli.specs.Answers.{Ends, status_after, text_after};
 ghost use Rattle.t1s_cli.specs.Beacons.{HasBeacons};
+ghost use Rattle.t1s_cli.specs.Decoded.{IsItemText, IsCaptureText, IsOffenceText, IsDecodedText};
+ghost use Rattle.t1s_cli.specs.Decoding.{IsReadInPieces};
 ghost use Rattle.t1s_cli.specs.Report.{report};
 ghost use Rattle.t1s_cli.specs.Text.{refused_line};
-ghost use Rattle.t1s_cli.specs.Words.{AreRun, AreCommand};
+ghost use Rattle.t1s_cli.specs.Words.{AreRun, AreDecode, AreCommand};
 
 use crate::commands::{Command, command_of};
+use crate::decoding::decode;
+use crate::ending::{finish, write_last};
 use crate::lines::refused_line;
 use crate::playing::play;
 use crate::reading::{ReadStop, read_whole};
 use crate::status::Status;
 use std::alloc::Global;
-use t1s_base::{Line, Sink, Source};
+use t1s_base::{Sink, Source};
 use t1s_script::{Script, ScriptFault, ScriptRefusal, read_script};
 use t1s_segment::Segment;
-
-/// Finishes a sink to which all was written.
-fn finish<K: Sink>(sink: &mut K, whole: Status) -> Status
-    requires { whole ≢ Status.WriteFault }
-    ensures answer { (result ≡ whole) ⊎ (result ≡ Status.WriteFault) }
-    ensures end { result ≡ whole → K.finished sink.new ≡ true }
-    ensures octets { K.written sink.new ≡ K.written sink.old }
-    ensures later { K.faults sink.old ≤ K.faults sink.new }
-    ensures rose { result ≡ Status.WriteFault → Rose (K.faults sink.old) (K.faults sink.new) }
-    ensures kept { result ≢ Status.WriteFault → K.faults sink.new ≡ K.faults sink.old }
-{
-    match sink.finish() {
-        Ok(()) => whole,
-        Err(_) => Status::WriteFault,
-    }
-}
 
 /// Writes the line of a refusal.
 fn refuse<K: Sink>(refusal: &ScriptRefusal, sink: &mut K) -> Status
     ensures { Ends K.written K.faults K.finished Status.Refused (refused_line refusal.now) sink.old sink.new result }
 {
-    let line = refused_line(refusal);
-    match sink.write(line.as_slice()) {
-        Ok(()) => finish(sink, Status::Refused),
-        Err(_) => Status::WriteFault,
-    }
+    write_last(&refused_line(refusal), sink, Status::Refused)
 }
 
 /// Writes the report of a script's run.
@@ -79,6 +66,10 @@ fn run_octets<K: Sink>(alloc: Global, bytes: &[u8], sink: &mut K) -> Status
 ///
 /// With the one word `run` it reads a script to its end, in pieces of at most 4096 octets and up to the
 /// octet 1,048,577, and writes the report of the script's run, each line by one `write` call.
+///
+/// With the one word `decode` it reads a capture in such pieces, up to the octet that is refused, and writes
+/// the line of each item and the line of the end or of the refusal, each by one `write` call. It takes no
+/// memory for that.
 pub fn workbench<S: Source, K: Sink>(
     alloc: Global,
     words: &[String],
@@ -91,21 +82,21 @@ pub fn workbench<S: Source, K: Sink>(
     ensures source_later { S.faults source.old ≤ S.faults source.new }
     ensures read_fault { result ≡ Status.ReadFault → Rose (S.faults source.old) (S.faults source.new) }
     ensures no_read_fault { result ≢ Status.ReadFault → S.faults source.new ≡ S.faults source.old }
-    ensures reads { (octets : List ℕ) → S.left source.old ≡ Some octets →
+    ensures reads { (octets : List ℕ) → AreRun words.now → S.left source.old ≡ Some octets →
         (result ≡ Status.Done) ⊎ ((result ≡ Status.Refused) ⊎ (result ≡ Status.WriteFault)) → S.left source.new ≡ Some (drop 1048577 octets) }
-    ensures read_fault_writes_nothing { result ≡ Status.ReadFault → sink.new ≡ sink.old }
+    ensures read_fault_writes_nothing { AreRun words.now → result ≡ Status.ReadFault → sink.new ≡ sink.old }
     ensures sink_later { K.faults sink.old ≤ K.faults sink.new }
     ensures write_fault { result ≡ Status.WriteFault → Rose (K.faults sink.old) (K.faults sink.new) }
     ensures no_write_fault { result ≢ Status.WriteFault → K.faults sink.new ≡ K.faults sink.old }
-    ensures write_fault_front { (octets : List ℕ) → S.left source.old ≡ Some octets → result ≡ Status.WriteFault →
+    ensures write_fault_front { (octets : List ℕ) → AreRun words.now → S.left source.old ≡ Some octets → result ≡ Status.WriteFault →
         GrowsByFront (K.written sink.old) (K.written sink.new) (text_after (script_of octets)) }
     ensures memory_writes_nothing { result ≡ Status.Memory → sink.new ≡ sink.old }
-    ensures refused { (octets : List ℕ) → S.left source.old ≡ Some octets → result ≡ Status.Refused → IsErr (script_of octets) }
-    ensures refused_line { (octets : List ℕ) (refusal : ScriptRefusal) → S.left source.old ≡ Some octets → script_of octets ≡ Err refusal →
+    ensures refused { (octets : List ℕ) → AreRun words.now → S.left source.old ≡ Some octets → result ≡ Status.Refused → IsErr (script_of octets) }
+    ensures refused_line { (octets : List ℕ) (refusal : ScriptRefusal) → AreRun words.now → S.left source.old ≡ Some octets → script_of octets ≡ Err refusal →
         result ≡ Status.Refused → Grows (K.written sink.old) (K.written sink.new) (refused_line refusal) }
     ensures refused_finishes { result ≡ Status.Refused → K.finished sink.new ≡ true }
-    ensures done { (octets : List ℕ) → S.left source.old ≡ Some octets → result ≡ Status.Done → IsOk (script_of octets) }
-    ensures done_report { (octets : List ℕ) (s : Script) → S.left source.old ≡ Some octets → script_of octets ≡ Ok s →
+    ensures done { (octets : List ℕ) → AreRun words.now → S.left source.old ≡ Some octets → result ≡ Status.Done → IsOk (script_of octets) }
+    ensures done_report { (octets : List ℕ) (s : Script) → AreRun words.now → S.left source.old ≡ Some octets → script_of octets ≡ Ok s →
         result ≡ Status.Done → Grows (K.written sink.old) (K.written sink.new) (report s) }
     ensures done_reads_all { (octets : List ℕ) → S.left source.old ≡ Some octets → result ≡ Status.Done → S.left source.new ≡ Some [] }
     ensures done_finishes { result ≡ Status.Done → K.finished sink.new ≡ true }
@@ -116,6 +107,22 @@ pub fn workbench<S: Source, K: Sink>(
         ¬ (Rose (S.faults source.old) (S.faults source.new)) → ¬ (Rose (K.faults sink.old) (K.faults sink.new)) →
         (result ≡ Status.Refused) ⊎ (result ≡ Status.Memory) }
     ensures beacons { (octets : List ℕ) (s : Script) → AreRun words.now → S.left source.old ≡ Some octets → script_of octets ≡ Ok s → HasBeacons s }
+    ensures decoded { (octets : List ℕ) → AreDecode words.now → S.left source.old ≡ Some octets → result ≡ Status.Done →
+        (text : List ℕ) × IsCaptureText octets text × Grows (K.written sink.old) (K.written sink.new) text }
+    ensures decode_refused { (octets : List ℕ) → AreDecode words.now → S.left source.old ≡ Some octets → result ≡ Status.Refused →
+        (text : List ℕ) × IsOffenceText octets text × Grows (K.written sink.old) (K.written sink.new) text }
+    ensures decode_write_fault_front { (octets : List ℕ) → AreDecode words.now → S.left source.old ≡ Some octets → result ≡ Status.WriteFault →
+        (text : List ℕ) × IsDecodedText octets text × GrowsByFront (K.written sink.old) (K.written sink.new) text }
+    ensures decode_read_fault { AreDecode words.now → result ≡ Status.ReadFault →
+        (taken : List ℕ) × (text : List ℕ) × Gives (S.left source.old) (S.left source.new) taken × IsCapturePrefix taken ×
+        IsItemText taken text × Grows (K.written sink.old) (K.written sink.new) text }
+    ensures decode_reads { AreDecode words.now → (taken : List ℕ) × Gives (S.left source.old) (S.left source.new) taken × IsReadInPieces taken }
+    ensures decode_takes_no_memory { AreDecode words.now → result ≢ Status.Memory }
+    ensures capture_is_decoded { (octets : List ℕ) → AreDecode words.now → S.left source.old ≡ Some octets → IsCapture octets → length octets ≤ 2 ^ 30 →
+        ¬ (Rose (S.faults source.old) (S.faults source.new)) → ¬ (Rose (K.faults sink.old) (K.faults sink.new)) → result ≡ Status.Done }
+    ensures offence_is_refused { (octets : List ℕ) (refusal : Refusal) → AreDecode words.now → S.left source.old ≡ Some octets →
+        IsFirstOffence octets refusal.offset refusal.why →
+        ¬ (Rose (S.faults source.old) (S.faults source.new)) → ¬ (Rose (K.faults sink.old) (K.faults sink.new)) → result ≡ Status.Refused }
 {
     match command_of(words) {
         Some(Command::Run) => match read_whole(alloc, source) {
@@ -123,6 +130,7 @@ pub fn workbench<S: Source, K: Sink>(
             Err(ReadStop::Failed) => Status::ReadFault,
             Err(ReadStop::Memory) => Status::Memory,
         },
+        Some(Command::Decode) => decode(source, sink),
         None => Status::Usage,
     }
 }

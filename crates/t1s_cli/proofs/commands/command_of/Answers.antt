@@ -8,7 +8,12 @@ one_word [] word octets l h at same = absurd (omega arith)
 one_word (w ∷ []) word octets l h at same = rw (← at, same) refl
 one_word (w ∷ v ∷ words) word octets l h at same = absurd (omega arith)
 
-pub returns-in-len1 : goal.returns-in-len1
-returns-in-len1 c =
+pub returns-in-len1-clause-run : goal.returns-in-len1-clause-run
+returns-in-len1-clause-run c =
     let same : string_bytes c.word-item.result ≡ codes "run" = search rules in
     (λ _. one_word c.args.words.now c.word-item.result (codes "run") c.in-len1.len_at_least c.in-len1.len_below c.word-item.is same, λ _. refl)
+
+pub returns-in-len1-2-clause-decode : goal.returns-in-len1-2-clause-decode
+returns-in-len1-2-clause-decode c =
+    let same : string_bytes c.word-item-then-words-lt2.result ≡ codes "decode" = search rules in
+    (λ _. one_word c.args.words.now c.word-item-then-words-lt2.result (codes "decode") c.in-len1.len_at_least c.in-len1.len_below c.word-item-then-words-lt2.is same, λ _. refl)

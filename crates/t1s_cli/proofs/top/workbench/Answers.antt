@@ -3,6 +3,7 @@ use Rattle.t1s_script.specs.Reading.{script_of}
 use Rattle.t1s_cli.specs.Answers.{Ends, status_after, text_after}
 use Rattle.t1s_cli.proofs.Ends.{ends_done, ends_refused, ends_report, ends_line, ends_played, ends_rejected, ends_same}
 use Rattle.t1s_cli.proofs.ThinScripts.{has_beacons}
+use Rattle.t1s_cli.proofs.WholeDecoding.{capture_done, offence_refused}
 use Rattle.t1s_cli.proofs.WholeInput.{same_reading, rest_of_reading}
 use Rattle.t1s_cli.proofs.top.workbench.Given.{Over}
 use Rattle.t1s_cli.proofs.top.workbench.Goals as goal
@@ -15,26 +16,26 @@ ends_of_all g c octets told =
     ends_same g.K.Sink.written g.K.Sink.faults g.K.Sink.finished c.args.sink.now c.run_octets.new.sink c.run_octets.result (script_of c.as_slice.result.now) (script_of octets) (ap script_of c.as_slice.ensures.value ∙ same) c.run_octets.ensures
 
 pub returns-in-Ok-clause-reads : goal.returns-in-Ok-clause-reads
-returns-in-Ok-clause-reads g c octets told e =
+returns-in-Ok-clause-reads g c octets words told e =
     rest_of_reading (g.S.Source.left c.args.source.now) (g.S.Source.left c.read_whole.new.source) c.in-Ok.bytes.items octets c.in-Ok.ensures.octets c.in-Ok.ensures.whole c.in-Ok.ensures.bound told
 
 pub returns-in-Ok-clause-write_fault_front : goal.returns-in-Ok-clause-write_fault_front
-returns-in-Ok-clause-write_fault_front g c octets told e = (ends_of_all g c octets told).front e
+returns-in-Ok-clause-write_fault_front g c octets words told e = (ends_of_all g c octets told).front e
 
 pub returns-in-Ok-clause-refused : goal.returns-in-Ok-clause-refused
-returns-in-Ok-clause-refused g c octets told e =
+returns-in-Ok-clause-refused g c octets words told e =
     ends_refused g.K.Sink.written g.K.Sink.faults g.K.Sink.finished c.args.sink.now c.run_octets.new.sink c.run_octets.result (script_of octets) (ends_of_all g c octets told) e
 
 pub returns-in-Ok-clause-refused_line : goal.returns-in-Ok-clause-refused_line
-returns-in-Ok-clause-refused_line g c octets refusal told reads e =
+returns-in-Ok-clause-refused_line g c octets refusal words told reads e =
     ends_line g.K.Sink.written g.K.Sink.faults g.K.Sink.finished c.args.sink.now c.run_octets.new.sink c.run_octets.result (script_of octets) refusal (ends_of_all g c octets told) reads e
 
 pub returns-in-Ok-clause-done : goal.returns-in-Ok-clause-done
-returns-in-Ok-clause-done g c octets told e =
+returns-in-Ok-clause-done g c octets words told e =
     ends_done g.K.Sink.written g.K.Sink.faults g.K.Sink.finished c.args.sink.now c.run_octets.new.sink c.run_octets.result (script_of octets) (ends_of_all g c octets told) e
 
 pub returns-in-Ok-clause-done_report : goal.returns-in-Ok-clause-done_report
-returns-in-Ok-clause-done_report g c octets s told reads e =
+returns-in-Ok-clause-done_report g c octets s words told reads e =
     ends_report g.K.Sink.written g.K.Sink.faults g.K.Sink.finished c.args.sink.now c.run_octets.new.sink c.run_octets.result (script_of octets) s (ends_of_all g c octets told) reads e
 
 pub returns-in-Ok-clause-script_is_played : goal.returns-in-Ok-clause-script_is_played
@@ -53,3 +54,13 @@ returns-in-Err-Failed-clause-beacons g c octets s words left reads = has_beacons
 
 pub returns-in-Err-Memory-clause-beacons : goal.returns-in-Err-Memory-clause-beacons
 returns-in-Err-Memory-clause-beacons g c octets s words left reads = has_beacons octets s reads
+
+pub returns-in-Some-Decode-clause-capture_is_decoded : goal.returns-in-Some-Decode-clause-capture_is_decoded
+returns-in-Some-Decode-clause-capture_is_decoded g c octets words told capture within calm_source calm_sink =
+    capture_done g.S.Source.left g.K.Sink.written g.K.Sink.faults g.K.Sink.finished c.args.source.now c.decode.new.source c.args.sink.now c.decode.new.sink c.decode.result c.decode.ensures.decodes
+    octets told capture within (λ e. calm_source (c.decode.ensures.read_fault e)) calm_sink
+
+pub returns-in-Some-Decode-clause-offence_is_refused : goal.returns-in-Some-Decode-clause-offence_is_refused
+returns-in-Some-Decode-clause-offence_is_refused g c octets refusal words told offence calm_source calm_sink =
+    offence_refused g.S.Source.left g.K.Sink.written g.K.Sink.faults g.K.Sink.finished c.args.source.now c.decode.new.source c.args.sink.now c.decode.new.sink c.decode.result c.decode.ensures.decodes
+    octets refusal told offence (λ e. calm_source (c.decode.ensures.read_fault e)) calm_sink

@@ -1,0 +1,152 @@
+-- How decoding goes on, and how it ends.
+use Rattle.std.proofs.Common.{◌≡◌, ◌≢◌, ℕ, ◌≤◌, ◌⊎◌, Bool, List, [], ◌∷◌, ◌++◌, length, Option, refl, sym, ap, subst, ◌∙◌, inl, inr, arith, append_assoc}
+use Rattle.t1s_base.specs.Causes.{Rose}
+use Rattle.t1s_base.specs.Octets.{Grows, GrowsByFront}
+use Rattle.t1s_capture.specs.declared.items.Counts.{Counts}
+use Rattle.t1s_capture.specs.declared.items.Item.{Item}
+use Rattle.t1s_capture.specs.declared.items.Refusal.{Refusal}
+use Rattle.t1s_capture.specs.State.{DecoderState}
+use Rattle.t1s_capture.specs.Stands.{Stands}
+use Rattle.t1s_capture.specs.Offences.{IsFirstOffence}
+use Rattle.t1s_capture.specs.Answers.{IsItemOctet, IsCountedCapture}
+use Rattle.t1s_cli.specs.declared.status.Status.{Status}
+use Rattle.t1s_cli.specs.declared.status.Status.TheVariants.{Done, Refused, ReadFault, WriteFault, Memory}
+use Rattle.t1s_cli.specs.Answers.{Ends}
+use Rattle.t1s_cli.specs.DecodeText.{item_line, end_line, offence_line}
+use Rattle.t1s_cli.specs.Decoded.{IsLineAt, Handed, Silent, IsCaptureText, IsOffenceText}
+use Rattle.t1s_cli.specs.Decoding.{IsDecoding, HasDecoded, HasStopped}
+use Rattle.t1s_cli.proofs.Puts.{grows_none, grows_more, front_more, front_wider}
+use Rattle.t1s_cli.proofs.DecodeText.{item_text_more, offence_text}
+use Rattle.t1s_cli.proofs.DecodeSteps.{capture_text, truncated_text, rest_text}
+
+module _ {K : Type 0} (written : K → Option (List ℕ)) (faults : K → ℕ) (finished : K → Bool) where
+  -- nothing is decoded yet
+  pub none_decoded : (d : DecoderState) (k : K) → Stands [] d → IsDecoding written faults [] d k k
+  none_decoded d k stands = record {
+    stands = stands;
+    shown = record { lines = []; items = refl; grows = grows_none (written k); kept = refl };
+  }
+
+  module _ (octets : List ℕ) (d : DecoderState) (first k : K) (h : IsDecoding written faults octets d first k) where
+    line_more : (octet : ℕ) (next : DecoderState) (line : List ℕ) (k' : K) → Stands (octets ++ octet ∷ []) next → IsLineAt octets octet line →
+        Grows (written k) (written k') line → faults k' ≡ faults k → IsDecoding written faults (octets ++ octet ∷ []) next first k'
+    line_more octet next line k' stands at grows kept =
+        let s = h.shown in
+        record {
+          stands = stands;
+          shown = record {
+            lines = s.lines ++ line;
+            items = item_text_more octets octet s.lines line s.items at;
+            grows = grows_more (written first) (written k) (written k') s.lines line s.grows grows;
+            kept = kept ∙ s.kept;
+          };
+        }
+
+    pub silent_on : (octet : ℕ) (next : DecoderState) → Stands (octets ++ octet ∷ []) next → ((item : Item) → IsItemOctet octets octet item → ⊥) →
+        IsDecoding written faults (octets ++ octet ∷ []) next first k
+    silent_on octet next stands none = line_more octet next [] k stands (Silent none refl) (grows_none (written k)) refl
+
+    pub handed_on : (octet : ℕ) (next : DecoderState) (item : Item) (k' : K) → Stands (octets ++ octet ∷ []) next → IsItemOctet octets octet item →
+        Grows (written k) (written k') (item_line item) → faults k' ≡ faults k → IsDecoding written faults (octets ++ octet ∷ []) next first k'
+    handed_on octet next item k' stands at grows kept = line_more octet next (item_line item) k' stands (Handed item at refl) grows kept
+
+    -- the line of the item at this octet was not taken whole
+    pub stopped_at_item : (octet : ℕ) (next : DecoderState) (item : Item) (k' : K) → Stands (octets ++ octet ∷ []) next → IsItemOctet octets octet item →
+        GrowsByFront (written k) (written k') (item_line item) → faults k ≤ faults k' → Rose (faults k) (faults k') →
+        HasStopped written faults finished (octets ++ octet ∷ []) first k' WriteFault
+    stopped_at_item octet next item k' stands at front later rose =
+        let s = h.shown in
+        let line = item_line item in
+        let kept = s.kept in
+        record {
+          early = λ e. cc;
+          ends = λ more.
+              let (tail, text) = rest_text (octets ++ octet ∷ []) next (s.lines ++ line) more stands (item_text_more octets octet s.lines line s.items (Handed item at refl)) in
+              record {
+                answer = inr (inr refl);
+                done = λ e. cc;
+                refused = λ e. cc;
+                front = λ e. (
+                  (s.lines ++ line) ++ tail,
+                  text,
+                  front_wider (written first) (written k') (s.lines ++ line) tail (front_more (written first) (written k) (written k') s.lines line s.grows front),
+                );
+                finish = λ e. absurd (elim e [ inl a ↦ cc | inr a ↦ cc ]);
+                later = omega arith;
+                rose = λ e. rw s.kept at rose;
+                kept = λ n. absurd (n refl);
+              };
+        }
+
+    -- the last line was written, and the sink finished, or the sink failed
+    module _ (all tail : List ℕ) (k' : K) (status : Status) (no_memory : status ≢ Memory) where
+      pub decoded_done : IsCaptureText all (h.shown.lines ++ tail) → Ends written faults finished Done tail k k' status → HasDecoded written faults finished all first k' status
+      decoded_done text e =
+          let s = h.shown in
+          let answer : (status ≡ Done) ⊎ (status ≡ WriteFault) = elim e.answer [ inl a ↦ inl a | inr a ↦ elim a [ inl b ↦ inr b | inr b ↦ absurd (no_memory b) ] ] in
+          let later = e.later in
+          let kept = s.kept in
+          record {
+            answer = elim answer [ inl a ↦ inl a | inr a ↦ inr (inr a) ];
+            done = λ is. (s.lines ++ tail, text, grows_more (written first) (written k) (written k') s.lines tail s.grows (e.whole_text is));
+            refused = λ is. absurd (elim answer [ inl a ↦ cc | inr a ↦ cc ]);
+            front = λ is. (s.lines ++ tail, inl text, front_more (written first) (written k) (written k') s.lines tail s.grows (e.front is));
+            finish = λ w. elim w [ inl is ↦ e.end is | inr is ↦ absurd (elim answer [ inl a ↦ cc | inr a ↦ cc ]) ];
+            later = omega arith;
+            rose = λ is. rw s.kept at (e.rose is);
+            kept = λ n. e.kept n ∙ s.kept;
+          }
+
+      pub decoded_refused : IsOffenceText all (h.shown.lines ++ tail) → Ends written faults finished Refused tail k k' status → HasDecoded written faults finished all first k' status
+      decoded_refused text e =
+          let s = h.shown in
+          let answer : (status ≡ Refused) ⊎ (status ≡ WriteFault) = elim e.answer [ inl a ↦ inl a | inr a ↦ elim a [ inl b ↦ inr b | inr b ↦ absurd (no_memory b) ] ] in
+          let later = e.later in
+          let kept = s.kept in
+          record {
+            answer = elim answer [ inl a ↦ inr (inl a) | inr a ↦ inr (inr a) ];
+            done = λ is. absurd (elim answer [ inl a ↦ cc | inr a ↦ cc ]);
+            refused = λ is. (s.lines ++ tail, text, grows_more (written first) (written k) (written k') s.lines tail s.grows (e.whole_text is));
+            front = λ is. (s.lines ++ tail, inr text, front_more (written first) (written k) (written k') s.lines tail s.grows (e.front is));
+            finish = λ w. elim w [ inl is ↦ absurd (elim answer [ inl a ↦ cc | inr a ↦ cc ]) | inr is ↦ e.end is ];
+            later = omega arith;
+            rose = λ is. rw s.kept at (e.rose is);
+            kept = λ n. e.kept n ∙ s.kept;
+          }
+
+    -- the octets end in a capture
+    pub ends_whole : (counts : Counts) (k' : K) (status : Status) → IsCountedCapture octets counts → Ends written faults finished Done (end_line counts) k k' status → status ≢ Memory →
+        HasDecoded written faults finished octets first k' status
+    ends_whole counts k' status capture e no_memory =
+        decoded_done octets (end_line counts) k' status no_memory (capture_text octets d h.shown.lines counts h.stands h.shown.items capture) e
+
+    -- or too early
+    pub ends_short : (refusal : Refusal) (k' : K) (status : Status) → IsFirstOffence octets refusal.offset refusal.why → Ends written faults finished Refused (offence_line refusal) k k' status → status ≢ Memory →
+        HasDecoded written faults finished octets first k' status
+    ends_short refusal k' status offence e no_memory =
+        decoded_refused octets (offence_line refusal) k' status no_memory (truncated_text octets d h.shown.lines refusal h.stands h.shown.items offence) e
+
+    -- this octet is the first offence
+    pub stopped_at_offence : (octet : ℕ) (refusal : Refusal) (k' : K) (status : Status) →
+        (refusal.offset ≡ length octets) × IsFirstOffence (octets ++ octet ∷ []) refusal.offset refusal.why →
+        Ends written faults finished Refused (offence_line refusal) k k' status → status ≢ Memory →
+        HasStopped written faults finished (octets ++ octet ∷ []) first k' status
+    stopped_at_offence octet refusal k' status offence e no_memory = record {
+      early = λ is. absurd (elim e.answer [ inl a ↦ cc | inr a ↦ elim a [ inl b ↦ cc | inr b ↦ cc ] ]);
+      ends = λ more.
+          decoded_refused ((octets ++ octet ∷ []) ++ more) (offence_line refusal) k' status no_memory
+          (offence_text octets octet more h.shown.lines refusal h.shown.items offence.0 offence.1) e;
+    }
+
+  -- what stopped within these octets did so within more of them
+  pub stopped_within : (octets more all : List ℕ) (first k : K) (status : Status) → octets ++ more ≡ all → HasStopped written faults finished octets first k status →
+      HasStopped written faults finished all first k status
+  stopped_within octets more all first k status e h = record {
+    early = h.early;
+    ends = λ further.
+        let same : octets ++ (more ++ further) ≡ all ++ further = sym (append_assoc octets more further) ∙ ap (λ (o : List ℕ). o ++ further) e in
+        subst (λ (o : List ℕ). HasDecoded written faults finished o first k status) same (h.ends (more ++ further));
+  }
+
+  pub no_read_fault : (octets : List ℕ) (first k : K) (status : Status) → HasDecoded written faults finished octets first k status → status ≢ ReadFault
+  no_read_fault octets first k status h e = elim h.answer [ inl a ↦ cc | inr a ↦ elim a [ inl b ↦ cc | inr b ↦ cc ] ]

@@ -1,0 +1,36 @@
+// How a text that was written ends.
+ghost use Rattle.std.specs.Prelude.{◌≡◌, ◌≢◌, ◌⊎◌, ◌≤◌, true};
+ghost use Rattle.t1s_base.specs.Causes.{Rose};
+ghost use Rattle.t1s_cli.specs.Answers.{Ends};
+
+use crate::status::Status;
+use t1s_base::{Line, Sink};
+
+/// Finishes a sink to which all was written.
+pub(crate) fn finish<K: Sink>(sink: &mut K, whole: Status) -> Status
+    requires { whole ≢ Status.WriteFault }
+    ensures answer { (result ≡ whole) ⊎ (result ≡ Status.WriteFault) }
+    ensures end { result ≡ whole → K.finished sink.new ≡ true }
+    ensures octets { K.written sink.new ≡ K.written sink.old }
+    ensures later { K.faults sink.old ≤ K.faults sink.new }
+    ensures rose { result ≡ Status.WriteFault → Rose (K.faults sink.old) (K.faults sink.new) }
+    ensures kept { result ≢ Status.WriteFault → K.faults sink.new ≡ K.faults sink.old }
+{
+    match sink.finish() {
+        Ok(()) => whole,
+        Err(_) => Status::WriteFault,
+    }
+}
+
+/// Writes the last line of a text, and finishes the sink.
+pub(crate) fn write_last<K: Sink>(line: &Line, sink: &mut K, whole: Status) -> Status
+    requires no_fault { whole ≢ Status.WriteFault }
+    requires no_memory { whole ≢ Status.Memory }
+    ensures ends { Ends K.written K.faults K.finished whole line.now sink.old sink.new result }
+    ensures takes_none { result ≢ Status.Memory }
+{
+    match sink.write(line.as_slice()) {
+        Ok(()) => finish(sink, whole),
+        Err(_) => Status::WriteFault,
+    }
+}

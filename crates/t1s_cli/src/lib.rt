@@ -26,4 +26,6 @@ pub use status::Status;
 pub use top::workbench;
 
 #[cfg(test)]
+mod decode_tests;
+#[cfg(test)]
 mod tests;

@@ -37,7 +37,7 @@ fn owned(alloc: Global, words: &[&str]) -> Result<Vec<String>, AllocError> {
 }
 
 /// Calls the program over a source and an empty sink, and answers the status and what was written.
-fn call<S: Source + Drop>(
+pub(crate) fn call<S: Source + Drop>(
     alloc: Global,
     words: &[&str],
     mut source: S,
@@ -130,8 +130,8 @@ fn each_answer_has_its_text(rt: HostRuntime) -> Result<(), Fail> {
 
 /// Gives one octet a read.
 #[derive(Drop)]
-struct OneByOne {
-    octets: QuietSource,
+pub(crate) struct OneByOne {
+    pub(crate) octets: QuietSource,
 }
 
 impl Source for OneByOne {

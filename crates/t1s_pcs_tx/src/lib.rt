@@ -1,7 +1,14 @@
-//! The transmitter of a node: what PLCA control tells it, and what it reports back.
+//! The transmitter of a node: it spells what PLCA control tells it, and what the delay line holds, as symbols.
 //!
-//! Both types are plain data. The layer above hands a `TxCmd` in each tick and reads a `TxReport`.
+//! The layer above steps a `PcsTx` once a tick and drives the quarter that it answers: `PcsTx::step` is the
+//! transmit table on plain data (`transmit_step` in `specs/Transmit.antt`), over the state of
+//! `specs/State.antt`. It tells a `TxIn` and reads a `TxReport`.
 #![tactic(auto)]
+
+mod states;
+mod transmitter;
+
+pub use transmitter::PcsTx;
 
 /// What PLCA control tells the transmitter in a tick (IEEE Std 802.3 148.4.4, `tx_cmd`).
 #[derive(Clone, Copy, PartialEq, Eq, Debug)]
@@ -12,6 +19,17 @@ pub enum TxCmd {
     Beacon,
     /// The opportunity is taken: the line is held until data follows.
     Commit,
+}
+
+/// What the transmitter is told in a tick.
+#[derive(Clone, Copy, PartialEq, Eq, Debug)]
+pub struct TxIn {
+    /// What PLCA control tells it.
+    pub cmd: TxCmd,
+    /// The frame has been given to the delay line whole.
+    pub ended: bool,
+    /// The frame has met a collision, or has lost a nibble.
+    pub bad: bool,
 }
 
 /// What the transmitter has done, as its last step left it.

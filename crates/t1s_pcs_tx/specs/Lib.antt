@@ -1,0 +1,3 @@
+pub mod State
+pub mod Transmit
+pub mod Runs

@@ -1,3 +1,4 @@
 pub mod State
 pub mod Transmit
 pub mod Runs
+pub mod Laws

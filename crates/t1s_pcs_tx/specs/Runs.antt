@@ -26,11 +26,14 @@ abbrev pub driven : TxState → List Tick → List (Option Quarter)
 driven s [] = []
 driven s (tick ∷ ticks) = (turn s tick).driven ∷ driven (turn s tick).state ticks
 
--- the nibbles that are popped in them: those that the line has lost
+-- what a line has lost at its front
+abbrev pub lost : List ℕ → List ℕ → List ℕ
+lost before left = take (length before - length left) before
+
+-- the nibbles that are popped in them
 abbrev pub popped : TxState → List Tick → List ℕ
 popped s [] = []
-popped s (tick ∷ ticks) =
-    take (length tick.line - length (turn s tick).line) tick.line ++ popped (turn s tick).state ticks
+popped s (tick ∷ ticks) = lost tick.line (turn s tick).line ++ popped (turn s tick).state ticks
 
 -- symbols on the line, each in its four quarters
 abbrev pub quarters : Symbol → List (Option Quarter)

@@ -2,9 +2,11 @@
 //!
 //! The layer above steps a `PcsTx` once a tick and drives the quarter that it answers: `PcsTx::step` is the
 //! transmit table on plain data (`transmit_step` in `specs/Transmit.antt`), over the state of
-//! `specs/State.antt`. It tells a `TxIn` and reads a `TxReport`.
+//! `specs/State.antt`. It tells a `TxIn` and reads a `TxReport`. That a piece is
+//! spelled of what is popped for it is a law, in the module `laws`, over the runs of `specs/Runs.antt`.
 #![tactic(auto)]
 
+pub mod laws;
 mod states;
 mod transmitter;
 
@@ -44,3 +46,6 @@ pub enum TxReport {
     /// The closer of a piece has just ended: `good` where it closed a good piece.
     Closed { good: bool },
 }
+
+#[cfg(test)]
+mod tests;

@@ -1,1 +1,5 @@
 pub mod Views
+pub mod Receiver
+pub mod Receive
+pub mod Ranges
+pub mod Leaves

@@ -1,0 +1,28 @@
+-- A quarter that completes a symbol.
+use Rattle.std.proofs.Common.{◌≡◌, refl, Bool, true, ◌∙◌}
+use Rattle.std.specs.Prelude.{Result, Ok, Err, Option}
+use Rattle.t1s_symbols.specs.declared.Quarter.{Quarter}
+use Rattle.t1s_symbols.specs.declared.Class.{Class}
+use Rattle.t1s_grammar.specs.declared.place.Phase.{Phase}
+use Rattle.t1s_grammar.specs.declared.place.PlaceFault.{PlaceFault}
+use Rattle.t1s_grammar.specs.Steps.{place_step}
+use Rattle.t1s_pcs_rx.specs.declared.reader.Burst.{Burst}
+use Rattle.t1s_pcs_rx.specs.declared.reader.Burst.TheVariants.{Reading, Ended}
+use Rattle.t1s_pcs_rx.specs.Receiver.{Receiver}
+use Rattle.t1s_pcs_rx.specs.Receive.{class_after, continues_last, judged, quarter_from}
+
+-- what is judged counts on the history and the kept nibbles alone
+judged-same : (r : Receiver) (q : Quarter) (class here : Class) (there : Burst) (place : Phase) (j : Result Phase PlaceFault)
+    → judged (record r { class = here; burst = there }) q class place j ≡ judged r q class place j
+judged-same r q class here there place (Ok next) = refl
+judged-same r q class here there place (Err fault) = refl
+
+pub quarter-judged : (r new : Receiver) (q : Quarter) (own : Bool) (last : Option Quarter) (fresh : Bool) (place : Phase)
+    (b : Burst) (class : Class) → b ≡ Reading last fresh place → continues_last last q ≡ true → q.part ≡ 3
+    → class ≡ class_after r.class fresh q.sym
+    → new ≡ judged (record r { class = class; burst = Ended }) q class place (place_step place q.sym)
+    → new ≡ quarter_from r q own b
+quarter-judged r new q own last fresh place b class e goes whole sets is =
+    is
+    ∙ judged-same r q class class Ended place (place_step place q.sym)
+    ∙ rw (e, goes, whole, sets) refl

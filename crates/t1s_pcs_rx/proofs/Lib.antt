@@ -1,2 +1,4 @@
 pub mod Kept
 pub mod Judged
+pub mod Ticks
+pub mod Bursts

@@ -3,3 +3,4 @@ pub mod Receiver
 pub mod Receive
 pub mod Ranges
 pub mod Leaves
+pub mod Laws

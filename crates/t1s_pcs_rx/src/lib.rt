@@ -1,6 +1,7 @@
 //! The receiver of the line: from what a node hears, tick by tick, to classes and pieces.
 #![tactic(auto)]
 
+pub mod laws;
 mod nibbles;
 mod piece;
 mod reader;

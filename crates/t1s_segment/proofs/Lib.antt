@@ -3,3 +3,4 @@ pub mod TickSteps
 pub mod Silents
 pub mod Rounds
 pub mod BeaconTicks
+pub mod Parts

@@ -10,3 +10,4 @@ pub mod Rings
 pub mod State
 pub mod Stands
 pub mod Beacons
+pub mod Parts

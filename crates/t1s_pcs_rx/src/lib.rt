@@ -1,4 +1,10 @@
-//! The receiver of the line: from what a node hears, tick by tick, to classes and pieces.
+//! The receiver of the line: from what a node hears, tick by tick, to the class of a burst and its pieces.
+//!
+//! The layer above uses `PcsRx::hear`, which takes one tick: it leaves the receiver as one step of the table, and its
+//! event is the table's. Views of pieces stand in `specs/Views.antt`, what a receiver keeps in `specs/Receiver.antt`,
+//! the table in `specs/Receive.antt`, and what a view leaves once its loan is over in `specs/Leaves.antt`. That the
+//! pieces of a burst that is heard whole are handed on, each in the last tick of its closer, is a law, in the module
+//! `laws`, stated in `specs/Laws.antt`.
 #![tactic(auto)]
 
 pub mod laws;
@@ -6,6 +12,8 @@ mod nibbles;
 mod piece;
 mod reader;
 mod receiver;
+#[cfg(test)]
+mod tests;
 
 pub use piece::{Closer, Kind, PieceView};
 pub use receiver::{PcsRx, RxEvent};

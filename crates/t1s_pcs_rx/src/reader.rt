@@ -209,21 +209,23 @@ impl Reader {
     {
         let lead = place.lead();
         let groups = place.nibbles();
-        let Ok(next) = place.take(quarter.sym) else {
-            return None;
-        };
-        keep(
-            &mut self.descrambler,
-            &mut self.nibbles,
-            groups,
-            quarter.sym,
-        );
-        self.burst = Burst::Reading {
-            last: Some(quarter),
-            fresh: false,
-            place: next,
-        };
-        closing(lead, groups, quarter.sym)
+        match place.take(quarter.sym) {
+            Err(_) => None,
+            Ok(next) => {
+                keep(
+                    &mut self.descrambler,
+                    &mut self.nibbles,
+                    groups,
+                    quarter.sym,
+                );
+                self.burst = Burst::Reading {
+                    last: Some(quarter),
+                    fresh: false,
+                    place: next,
+                };
+                closing(lead, groups, quarter.sym)
+            }
+        }
     }
 }
 

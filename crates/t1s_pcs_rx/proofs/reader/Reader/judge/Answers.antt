@@ -11,7 +11,7 @@ invariant_of-self c =
       ranges = c.keep.ensures.ranges;
     }
 
-pub returns-clause-kept : goal.returns-clause-kept
-returns-clause-kept c =
+pub returns-in-Ok-clause-kept : goal.returns-in-Ok-clause-kept
+returns-in-Ok-clause-kept c =
     rw (c.closing.ensures, c.keep.ensures.nibbles, ← c.self.view_is)
     (closed-kept c.lead-lead.result c.nibbles-groups.result c.nibbles-groups.result c.self.inside.descrambler c.self.inside.nibbles c.args.quarter.sym)

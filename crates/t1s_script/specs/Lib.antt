@@ -1,3 +1,9 @@
 pub mod Lines
+pub mod Settings
+pub mod Saying
+pub mod Ranges
+pub mod Draft
 pub mod Script
 pub mod Reading
+pub mod ThinForm
+pub mod Fit

@@ -23,6 +23,10 @@ pub record IsScript (s : Script) : Type 0 where
   pub rise_high : s.rise ≤ 16
   pub fall_low : 1 ≤ s.fall
   pub fall_high : s.fall ≤ 16
+  pub burst_high : s.burst ≤ 255
+  pub room_low : 1 ≤ s.room
+  pub room_high : s.room ≤ 64
+  pub seed_high : s.seed ≤ 4294967295
   pub some_node : 1 ≤ length s.nodes
   pub most_nodes : length s.nodes ≤ 16
   pub ascending : IsStrictlyIncreasing (map (λ (n : NodeLine). n.no) s.nodes)

@@ -4,21 +4,37 @@ ghost use Rattle.t1s_script.specs.declared.refusals.ScriptFault.TheVariants.{Mem
 
 use std::alloc::{AllocError, AllocFailed};
 
-/// What is wrong with a script.
+/// What is wrong with a script. A line is refused for the first of these that holds of it.
 #[derive(Clone, Copy, PartialEq, Eq, Debug)]
 pub enum ScriptReason {
     /// It has more than 1,048,576 octets. Its line is 0.
     TooLong,
     /// Its first line isn't `t1s 1`, or it has no line. Its line is 1.
     FirstLine,
-    /// A later line isn't the one that a script has in its place, or is wanting.
+    /// A line that isn't skipped stands after `end`.
+    AfterEnd,
+    /// A line begins with no known word.
     UnknownWord,
+    /// A line has not as many fields as its word takes.
+    Form,
+    /// A field isn't one to ten decimal digits without a leading zero.
+    Number,
+    /// A number is outside its range.
+    OutOfRange,
+    /// A line that may stand once stands again.
+    Twice,
+    /// A line names a node that has no earlier `node` line.
+    UnknownNode,
+    /// `end` comes and no `node` line stood before.
+    NoNode,
+    /// There is no `end` line. Its line is the number of lines plus 1.
+    NoEnd,
 }
 
 /// The first line at which a script is refused, and why.
 #[derive(Clone, Copy, PartialEq, Eq, Debug)]
 pub struct ScriptRefusal {
-    /// The line's number, counted from 1. It is the number of lines plus 1 where a line is wanting.
+    /// The line's number, counted from 1.
     pub line: u32,
     /// What is wrong there.
     pub reason: ScriptReason,

@@ -59,6 +59,12 @@ pub struct Script {
     pub rise: u8,
     /// After how many ticks in a row without energy it is read no more, 1 to 16.
     pub fall: u8,
+    /// How many further frames may follow the first one of an opportunity.
+    pub burst: u8,
+    /// How many frames the ring of a node holds, 1 to 64.
+    pub room: u8,
+    /// The seed of the draws, at most 4,294,967,295.
+    pub seed: u64,
     /// The nodes, 1 to 16 of them.
     pub nodes: NodeList,
     /// The run has the ticks 0 to `end` - 1; `end` is 1 to 2,000,000.

@@ -1,0 +1,96 @@
+-- What the lines so far say, and what one more line adds to it. The reasons here are those for which a line
+-- is refused because of the lines before it.
+use Rattle.std.specs.Prelude.{ℕ, ◌+◌, List, [], ◌∷◌, replicate, get_or, slice_set, is_some, unwrap_or, Option, Some, None, Result, Ok, Err, if◌then◌else◌}
+use Rattle.std.specs.List.{list_any}
+use Rattle.t1s_script.specs.Settings.{no_settings, given, with_given, value_in}
+use Rattle.t1s_script.specs.Saying.{Said}
+use Rattle.t1s_script.specs.declared.draft.Draft.{Draft}
+use Rattle.t1s_script.specs.declared.draft.Slot.{Slot}
+use Rattle.t1s_script.specs.declared.refusals.ScriptReason.{ScriptReason}
+use Rattle.t1s_script.specs.declared.refusals.ScriptReason.TheVariants.{AfterEnd, Twice, UnknownNode, NoNode}
+use Rattle.t1s_script.specs.declared.script.NodeLine.{NodeLine}
+use Rattle.t1s_script.specs.declared.script.Script.{Script}
+use Rattle.t1s_script.specs.declared.words.Setting.{Setting}
+use Rattle.t1s_script.specs.declared.words.Setting.TheVariants.{Count, To, Rise, Fall, Burst, Room}
+use Rattle.t1s_script.specs.declared.words.ScriptLine.{ScriptLine}
+use Rattle.t1s_script.specs.declared.words.ScriptLine.TheVariants.{Skipped, Set, Seed, Node, Late, End}
+
+-- no line stood yet: there is a free slot for each of the node numbers 0 to 15
+abbrev pub draft_start : Draft
+draft_start = record { settings = no_settings; seed = None; slots = replicate 16 None; end = None }
+
+-- what stood for the node of that number, if its `node` line stood
+abbrev pub slot_at : Draft → ℕ → Option Slot
+slot_at d number = get_or d.slots number None
+
+abbrev pub with_slot : Draft → ℕ → Slot → Draft
+with_slot d number slot = record d { slots = slice_set d.slots number (Some slot) }
+
+-- ---- one more line, by its word
+
+abbrev pub set_after : Draft → Setting → ℕ → Result Draft ScriptReason
+set_after d w n = if is_some (given d.settings w) then Err Twice else Ok (record d { settings = with_given d.settings w n })
+
+abbrev pub seed_after : Draft → ℕ → Result Draft ScriptReason
+seed_after d n = if is_some d.seed then Err Twice else Ok (record d { seed = Some n })
+
+abbrev pub node_after : Draft → ℕ → ℕ → ℕ → Result Draft ScriptReason
+node_after d number id place =
+    if is_some (slot_at d number) then Err Twice else Ok (with_slot d number (record { id = id; place = place; start = None }))
+
+abbrev pub late_in_slot : Draft → ℕ → ℕ → Option Slot → Result Draft ScriptReason
+late_in_slot d number start (Some slot) =
+    if is_some slot.start then Err Twice else Ok (with_slot d number (record slot { start = Some start }))
+late_in_slot d number start None = Err UnknownNode
+
+abbrev pub late_after : Draft → ℕ → ℕ → Result Draft ScriptReason
+late_after d number start = late_in_slot d number start (slot_at d number)
+
+abbrev pub end_after : Draft → ℕ → Result Draft ScriptReason
+end_after d last = if list_any is_some d.slots then Ok (record d { end = Some last }) else Err NoNode
+
+-- a line that isn't refused by itself
+abbrev pub line_after : Draft → ScriptLine → Result Draft ScriptReason
+line_after d Skipped = Ok d
+line_after d (Set w n) = set_after d w n
+line_after d (Seed n) = seed_after d n
+line_after d (Node number id place) = node_after d number id place
+line_after d (Late number start) = late_after d number start
+line_after d (End last) = end_after d last
+
+-- a line that isn't skipped, where `end` stood or not
+abbrev pub said_after : Draft → Option ℕ → Said → Result Draft ScriptReason
+said_after d (Some last) line = Err AfterEnd
+said_after d None (Ok line) = line_after d line
+said_after d None (Err reason) = Err reason
+
+-- any line
+abbrev pub draft_after : Draft → Said → Result Draft ScriptReason
+draft_after d (Ok Skipped) = Ok d
+draft_after d line = said_after d d.end line
+
+-- ---- the script that the lines give
+
+-- the node of a slot: a script's `to` is its timer, and without a `late` line it starts at tick 0
+abbrev pub node_of : ℕ → ℕ → Slot → NodeLine
+node_of to number slot = record { no = number; id = slot.id; place = slot.place; to = to; start = unwrap_or slot.start 0 }
+
+-- the nodes in ascending number, where the first of these slots is that of that number
+abbrev pub nodes_from : ℕ → ℕ → List (Option Slot) → List NodeLine
+nodes_from to number [] = []
+nodes_from to number (None ∷ slots) = nodes_from to (number + 1) slots
+nodes_from to number (Some slot ∷ slots) = node_of to number slot ∷ nodes_from to (number + 1) slots
+
+-- the script of these lines, where the last of them is `end`
+abbrev pub script_with : Draft → ℕ → Script
+script_with d last = record {
+  count = value_in d.settings Count;
+  to = value_in d.settings To;
+  rise = value_in d.settings Rise;
+  fall = value_in d.settings Fall;
+  burst = value_in d.settings Burst;
+  room = value_in d.settings Room;
+  seed = unwrap_or d.seed 1;
+  nodes = nodes_from (value_in d.settings To) 0 d.slots;
+  end = last;
+}

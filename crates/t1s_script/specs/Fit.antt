@@ -1,0 +1,112 @@
+-- Fit scripts: the premises on which the promises of the shared line stand, the span, and the bound of a start.
+use Rattle.std.specs.Prelude.{ℕ, ◌+◌, ◌*◌, ◌≡◌, ◌≢◌, ◌<◌, ◌≤◌, ◌==◌, Bool, not, List, [], ◌∷◌, ◌++◌, map, max, find, length, slice_get, count_by, nat_lt, nat_le, Option, Some, None, Result, Ok, Err, All, if◌then◌else◌}
+use Rattle.std.specs.Int.{abs_diff}
+use Rattle.t1s_script.specs.declared.fitness.Unfit.{Unfit}
+use Rattle.t1s_script.specs.declared.script.NodeLine.{NodeLine}
+use Rattle.t1s_script.specs.declared.script.Script.{Script}
+
+-- ---- the span
+
+-- the greatest distance of place x from one of these places, in whole bit times; 0 where there is none
+abbrev pub farthest : ℕ → List NodeLine → ℕ
+farthest x [] = 0
+farthest x (n ∷ ns) = max (abs_diff x n.place) (farthest x ns)
+
+-- the greatest distance of two of these nodes; 0 where there are fewer than two
+abbrev pub widest : List NodeLine → ℕ
+widest [] = 0
+widest (n ∷ ns) = max (farthest n.place ns) (widest ns)
+
+abbrev pub span_of : Script → ℕ
+span_of s = widest s.nodes
+
+-- ---- the bound of a start, in ticks
+
+-- no drive is longer: each of its frames takes at most 12384 ticks
+abbrev pub longest_drive : Script → ℕ
+longest_drive s = (1 + s.burst) * 12384 + 136
+
+-- no opportunity takes longer, with the way to the farthest node and back, and the carrier reading
+abbrev pub longest_opportunity : Script → ℕ
+longest_opportunity s = s.to + longest_drive s + 2 * span_of s + s.rise + s.fall
+
+-- a frame that is first in its ring starts within so many ticks
+abbrev pub start_bound : Script → ℕ
+start_bound s = 1300 + (s.count + 3) * (longest_opportunity s + 20)
+
+-- ---- the premises, each with the two values that show where it isn't met
+
+abbrev pub unfit : ℕ → ℕ → ℕ → Option Unfit
+unfit premise left right = Some (record { premise = premise; left = left; right = right })
+
+-- 1: exactly one node has the ID 0; else the number of nodes with the ID 0, and 1
+abbrev pub coordinators : List NodeLine → ℕ
+coordinators nodes = count_by (λ (n : NodeLine). n.id == 0) nodes
+
+abbrev pub without_one_coordinator : List NodeLine → Option Unfit
+without_one_coordinator nodes = if coordinators nodes == 1 then None else unfit 1 (coordinators nodes) 1
+
+-- 2: the IDs are distinct; else the number of the first node whose ID stood before, and of the first node
+-- with that ID
+abbrev pub repeat_or : NodeLine → Option NodeLine → Option Unfit → Option Unfit
+repeat_or n (Some earlier) later = unfit 2 n.no earlier.no
+repeat_or n None later = later
+
+abbrev pub with_repeat_after : List NodeLine → List NodeLine → Option Unfit
+with_repeat_after before [] = None
+with_repeat_after before (n ∷ ns) = repeat_or n (find (λ (m : NodeLine). m.id == n.id) before) (with_repeat_after (before ++ n ∷ []) ns)
+
+abbrev pub with_repeat : List NodeLine → Option Unfit
+with_repeat nodes = with_repeat_after [] nodes
+
+-- 3: each ID is below the count; else the first other ID, and the count
+abbrev pub high_id : ℕ → Option NodeLine → Option Unfit
+high_id count (Some n) = unfit 3 n.id count
+high_id count None = None
+
+abbrev pub with_high_id : ℕ → List NodeLine → Option Unfit
+with_high_id count nodes = high_id count (find (λ (n : NodeLine). nat_le count n.id) nodes)
+
+-- 4: each node's timer is that of the script; else the first other timer, and that of the script
+abbrev pub other_timer : ℕ → Option NodeLine → Option Unfit
+other_timer to (Some n) = unfit 4 n.to to
+other_timer to None = None
+
+abbrev pub with_other_timer : ℕ → List NodeLine → Option Unfit
+with_other_timer to nodes = other_timer to (find (λ (n : NodeLine). not (n.to == to)) nodes)
+
+-- 6: an opportunity has at most 15 further frames; else how many it has, and 15
+abbrev pub with_long_bursts : ℕ → Option Unfit
+with_long_bursts burst = if nat_le burst 15 then None else unfit 6 burst 15
+
+-- 7: twice the span and `rise` together are below `to`; else that sum, and `to`
+abbrev pub with_long_cable : Script → Option Unfit
+with_long_cable s = if nat_lt (2 * span_of s + s.rise) s.to then None else unfit 7 (2 * span_of s + s.rise) s.to
+
+-- the first of two
+abbrev pub or_else : Option Unfit → Option Unfit → Option Unfit
+or_else (Some u) later = Some u
+or_else None later = later
+
+-- the lowest-numbered premise that isn't met
+abbrev pub unmet : Script → Option Unfit
+unmet s =
+    or_else (without_one_coordinator s.nodes) (
+    or_else (with_repeat s.nodes) (
+    or_else (with_high_id s.count s.nodes) (
+    or_else (with_other_timer s.to s.nodes) (
+    or_else (with_long_bursts s.burst) (with_long_cable s)))))
+
+-- what is answered where this premise isn't met, or all are
+abbrev pub fitness_of : Option Unfit → Result Unit Unfit
+fitness_of (Some u) = Err u
+fitness_of None = Ok tt
+
+-- all premises are met
+pub record IsFit (s : Script) : Type 0 where
+  pub one_coordinator : coordinators s.nodes ≡ 1
+  pub distinct_ids : (i j : ℕ) (m n : NodeLine) → slice_get s.nodes i ≡ Some m → slice_get s.nodes j ≡ Some n → i < j → m.id ≢ n.id
+  pub low_ids : All (λ (n : NodeLine). n.id < s.count) s.nodes
+  pub one_timer : All (λ (n : NodeLine). n.to ≡ s.to) s.nodes
+  pub short_bursts : s.burst ≤ 15
+  pub short_cable : 2 * span_of s + s.rise < s.to

@@ -1,0 +1,106 @@
+-- What one line of a script says, by itself: its word, and its numbers in their ranges.
+use Rattle.std.specs.Prelude.{ℕ, ◌==◌, ◌&&◌, Bool, false, List, [], ◌∷◌, map, nat_le, codes, Option, Some, None, Result, Ok, Err, if◌then◌else◌}
+use Rattle.std.specs.Str.{bytes_eq}
+use Rattle.t1s_base.specs.Numbers.{number_of}
+use Rattle.t1s_script.specs.Lines.{fields_of}
+use Rattle.t1s_script.specs.Settings.{lowest, highest}
+use Rattle.t1s_script.specs.declared.refusals.ScriptReason.{ScriptReason}
+use Rattle.t1s_script.specs.declared.refusals.ScriptReason.TheVariants.{UnknownWord, Form, Number, OutOfRange}
+use Rattle.t1s_script.specs.declared.words.Setting.{Setting}
+use Rattle.t1s_script.specs.declared.words.Setting.TheVariants.{Count, To, Rise, Fall, Burst, Room}
+use Rattle.t1s_script.specs.declared.words.Word.{Word}
+use Rattle.t1s_script.specs.declared.words.Word.TheVariants.{Set as SetWord, Seed as SeedWord, Node as NodeWord, Late as LateWord, End as EndWord}
+use Rattle.t1s_script.specs.declared.words.ScriptLine.{ScriptLine}
+use Rattle.t1s_script.specs.declared.words.ScriptLine.TheVariants.{Skipped, Set, Seed, Node, Late, End}
+
+-- what a line says, or the first reason of the table for which it is refused by itself
+abbrev pub Said : Type 0
+Said = Result ScriptLine ScriptReason
+
+-- the word that a field is
+abbrev pub word_of : List ℕ → Option Word
+word_of field =
+    if bytes_eq field (codes "count") then Some (SetWord Count)
+    else if bytes_eq field (codes "to") then Some (SetWord To)
+    else if bytes_eq field (codes "rise") then Some (SetWord Rise)
+    else if bytes_eq field (codes "fall") then Some (SetWord Fall)
+    else if bytes_eq field (codes "burst") then Some (SetWord Burst)
+    else if bytes_eq field (codes "room") then Some (SetWord Room)
+    else if bytes_eq field (codes "seed") then Some SeedWord
+    else if bytes_eq field (codes "node") then Some NodeWord
+    else if bytes_eq field (codes "late") then Some LateWord
+    else if bytes_eq field (codes "end") then Some EndWord
+    else None
+
+-- ---- the numbers of a line: each is a number, and then each lies in its range
+
+abbrev pub set_said : Setting → Option ℕ → Said
+set_said w (Some n) = if nat_le (lowest w) n && nat_le n (highest w) then Ok (Set w n) else Err OutOfRange
+set_said w None = Err Number
+
+-- a seed is 0 to 4294967295
+abbrev pub seed_said : Option ℕ → Said
+seed_said (Some n) = if nat_le n 4294967295 then Ok (Seed n) else Err OutOfRange
+seed_said None = Err Number
+
+-- a node's number is 0 to 15, its ID and its place 0 to 255
+abbrev pub node_said : Option ℕ → Option ℕ → Option ℕ → Said
+node_said (Some number) (Some id) (Some place) =
+    if nat_le number 15 && nat_le id 255 && nat_le place 255 then Ok (Node number id place) else Err OutOfRange
+node_said _ _ _ = Err Number
+
+-- a start is 0 to 2,000,000
+abbrev pub late_said : Option ℕ → Option ℕ → Said
+late_said (Some number) (Some start) = if nat_le number 15 && nat_le start 2000000 then Ok (Late number start) else Err OutOfRange
+late_said _ _ = Err Number
+
+-- an end is 1 to 2,000,000
+abbrev pub end_said : Option ℕ → Said
+end_said (Some last) = if nat_le 1 last && nat_le last 2000000 then Ok (End last) else Err OutOfRange
+end_said None = Err Number
+
+-- ---- the fields of a line: as many as the word takes
+
+abbrev pub set_in : Setting → List (List ℕ) → Said
+set_in w (n ∷ []) = set_said w (number_of n)
+set_in w _ = Err Form
+
+abbrev pub seed_in : List (List ℕ) → Said
+seed_in (n ∷ []) = seed_said (number_of n)
+seed_in _ = Err Form
+
+abbrev pub node_in : List (List ℕ) → Said
+node_in (number ∷ id ∷ place ∷ []) = node_said (number_of number) (number_of id) (number_of place)
+node_in _ = Err Form
+
+abbrev pub late_in : List (List ℕ) → Said
+late_in (number ∷ start ∷ []) = late_said (number_of number) (number_of start)
+late_in _ = Err Form
+
+abbrev pub end_in : List (List ℕ) → Said
+end_in (last ∷ []) = end_said (number_of last)
+end_in _ = Err Form
+
+-- what the fields after the word say
+abbrev pub said_by : Option Word → List (List ℕ) → Said
+said_by (Some (SetWord w)) fields = set_in w fields
+said_by (Some SeedWord) fields = seed_in fields
+said_by (Some NodeWord) fields = node_in fields
+said_by (Some LateWord) fields = late_in fields
+said_by (Some EndWord) fields = end_in fields
+said_by None fields = Err UnknownWord
+
+-- ---- whole lines
+
+abbrev pub said_in : List (List ℕ) → Said
+said_in [] = Err UnknownWord
+said_in (first ∷ fields) = said_by (word_of first) fields
+
+-- a line that begins with `#` is skipped
+abbrev pub is_skipped : List ℕ → Bool
+is_skipped [] = false
+is_skipped (octet ∷ rest) = octet == 35
+
+-- what a line after the first says
+abbrev pub said : List ℕ → Said
+said line = if is_skipped line then Ok Skipped else said_in (fields_of line)

@@ -1,0 +1,183 @@
+//! Which scripts are fit, how wide a segment is, and how long a start takes at most.
+ghost use Rattle.std.specs.Prelude.{◌≡◌, ◌≤◌, ◌↔◌, ◌==◌, Err, IsOk, find};
+ghost use Rattle.t1s_script.specs.declared.script.NodeLine.{NodeLine};
+ghost use Rattle.t1s_script.specs.Fit.{IsFit, farthest, fitness_of, longest_opportunity, span_of, start_bound, unmet, with_high_id, with_long_bursts, with_long_cable, with_other_timer, with_repeat, without_one_coordinator};
+
+use crate::script::{NodeLine, Script};
+
+/// How many ticks a frame takes on the line at most, with what stands round it.
+const LONGEST_FRAME: u64 = 12_384;
+
+/// How many ticks a drive takes beside its frames.
+const DRIVE_EDGES: u64 = 136;
+
+/// How many ticks pass from the head of a ring to a ready node.
+const READY: u64 = 1300;
+
+/// How many ticks a beacon takes.
+const BEACON: u64 = 20;
+
+/// The most further frames of an opportunity in a fit script.
+const FIT_BURST: u8 = 15;
+
+/// A premise that a script doesn't meet, with two values that show it.
+#[derive(Clone, Copy, PartialEq, Eq, Debug)]
+pub struct Unfit {
+    /// 1: exactly one node has the ID 0. 2: the IDs are distinct. 3: each ID is below the count. 4: each
+    /// node has the timer of the script. 6: at most 15 further frames in an opportunity. 7: twice the
+    /// span and `rise` together are below `to`.
+    pub premise: u8,
+    /// What is there: 1 the number of nodes with the ID 0, 2 the number of the first node whose ID stood
+    /// before, 3 the first such ID, 4 the first such timer, 6 `burst`, 7 the sum.
+    pub left: u64,
+    /// What it is held against: 1 the number 1, 2 the number of the first node with that ID, 3 the count,
+    /// 4 `to`, 6 the number 15, 7 `to`.
+    pub right: u64,
+}
+
+/// The greatest distance of a place from one of the nodes.
+fn farthest(place: u8, nodes: &[NodeLine]) -> u8
+    ensures { result ≡ farthest place nodes.now }
+{
+    let mut most = 0;
+    for node in nodes {
+        most = place.abs_diff(node.place).max(most);
+    }
+    most
+}
+
+/// The number as a wide one.
+fn wide(n: u8) -> u64
+    ensures value { result ≡ n }
+    ensures small { result ≤ 255 }
+{
+    u64::from(n)
+}
+
+/// The span of a script: the greatest distance of two of its nodes in whole bit times, at most 255. It
+/// is 0 where there are fewer than two.
+pub fn span(s: &Script) -> u64
+    ensures value { result ≡ span_of s.now }
+    ensures small { result ≤ 255 }
+{
+    let nodes = s.nodes.as_slice();
+    let mut most = 0;
+    for i in 0..nodes.len() {
+        most = farthest(nodes[i].place, &nodes[i + 1..]).max(most);
+    }
+    wide(most)
+}
+
+/// How many ticks an opportunity takes at most.
+fn opportunity(s: &Script) -> u64
+    ensures value { result ≡ longest_opportunity s.now }
+    ensures small { result ≤ 4000000 }
+{
+    let drive = (1 + wide(s.burst)) * LONGEST_FRAME + DRIVE_EDGES;
+    wide(s.to) + drive + 2 * span(s) + wide(s.rise) + wide(s.fall)
+}
+
+/// How many ticks a frame that is first in its ring waits at most for its start, where the script is fit
+/// and every status was OK before. It is never too large for its type, also where the script isn't fit.
+pub fn bound(s: &Script) -> u64
+    ensures { result ≡ start_bound s.now }
+{
+    READY + (wide(s.count) + 3) * (opportunity(s) + BEACON)
+}
+
+/// A premise that isn't met, and its two values.
+fn unmet_premise(premise: u8, left: u64, right: u64) -> Result<(), Unfit>
+    ensures { result ≡ Err (record { premise = premise; left = left; right = right }) }
+{
+    Err(Unfit {
+        premise,
+        left,
+        right,
+    })
+}
+
+/// Premise 1: exactly one node has the ID 0.
+fn one_coordinator(nodes: &[NodeLine]) -> Result<(), Unfit>
+    ensures { result ≡ fitness_of (without_one_coordinator nodes.now) }
+{
+    let count = nodes.iter().filter(|node| node.id == 0).count() as u64;
+    if count == 1 { Ok(()) } else { unmet_premise(1, count, 1) }
+}
+
+/// The first of the nodes with that ID.
+fn node_with_id(nodes: &[NodeLine], id: u8) -> Option<NodeLine>
+    ensures { result ≡ find (λ (n : NodeLine). n.id == id) nodes.now }
+{
+    nodes.iter().copied().find(|node| node.id == id)
+}
+
+/// Premise 2: the IDs are distinct.
+fn distinct_ids(nodes: &[NodeLine]) -> Result<(), Unfit>
+    ensures { result ≡ fitness_of (with_repeat nodes.now) }
+{
+    for i in 0..nodes.len() {
+        let node = nodes[i];
+        if let Some(earlier) = node_with_id(&nodes[..i], node.id) {
+            return unmet_premise(2, wide(node.no), wide(earlier.no));
+        }
+    }
+    Ok(())
+}
+
+/// Premise 3: each ID is below the count.
+fn low_ids(nodes: &[NodeLine], count: u8) -> Result<(), Unfit>
+    ensures { result ≡ fitness_of (with_high_id count nodes.now) }
+{
+    match nodes.iter().copied().find(|node| count <= node.id) {
+        Some(node) => unmet_premise(3, wide(node.id), wide(count)),
+        None => Ok(()),
+    }
+}
+
+/// Premise 4: each node has the timer of the script.
+fn one_timer(nodes: &[NodeLine], to: u8) -> Result<(), Unfit>
+    ensures { result ≡ fitness_of (with_other_timer to nodes.now) }
+{
+    match nodes.iter().copied().find(|node| node.to != to) {
+        Some(node) => unmet_premise(4, wide(node.to), wide(to)),
+        None => Ok(()),
+    }
+}
+
+/// Premise 6: an opportunity has at most 15 further frames.
+fn short_bursts(burst: u8) -> Result<(), Unfit>
+    ensures { result ≡ fitness_of (with_long_bursts burst) }
+{
+    if burst <= FIT_BURST {
+        Ok(())
+    } else {
+        unmet_premise(6, wide(burst), wide(FIT_BURST))
+    }
+}
+
+/// Premise 7: twice the span and `rise` together are below `to`.
+fn short_cable(s: &Script) -> Result<(), Unfit>
+    ensures { result ≡ fitness_of (with_long_cable s.now) }
+{
+    let ticks = 2 * span(s) + wide(s.rise);
+    if ticks < wide(s.to) {
+        Ok(())
+    } else {
+        unmet_premise(7, ticks, wide(s.to))
+    }
+}
+
+/// Whether the script is fit: what is promised of the shared line stands on these premises. Where one
+/// isn't met it answers the lowest-numbered one, with the two values that show it.
+pub fn fit(s: &Script) -> Result<(), Unfit>
+    ensures value { result ≡ fitness_of (unmet s.now) }
+    ensures fit { IsOk result ↔ IsFit s.now }
+{
+    let nodes = s.nodes.as_slice();
+    one_coordinator(nodes)?;
+    distinct_ids(nodes)?;
+    low_ids(nodes, s.count)?;
+    one_timer(nodes, s.to)?;
+    short_bursts(s.burst)?;
+    short_cable(s)
+}

@@ -1,1 +1,6 @@
 pub mod Cuts
+pub mod Ranges
+pub mod Nodes
+pub mod Validity
+pub mod Premises
+pub mod ThinScripts

@@ -1,5 +1,5 @@
 -- Fit scripts: the premises on which the promises of the shared line stand, the span, and the bound of a start.
-use Rattle.std.specs.Prelude.{ℕ, ◌+◌, ◌*◌, ◌≡◌, ◌≢◌, ◌<◌, ◌≤◌, ◌==◌, Bool, not, List, [], ◌∷◌, ◌++◌, map, max, find, length, slice_get, count_by, nat_lt, nat_le, Option, Some, None, Result, Ok, Err, All, if◌then◌else◌}
+use Rattle.std.specs.Prelude.{ℕ, ◌+◌, ◌*◌, ◌≡◌, ◌≢◌, ◌<◌, ◌≤◌, ◌==◌, not, List, [], ◌∷◌, ◌++◌, max, find, slice_get, count_by, nat_lt, nat_le, Option, Some, None, Result, Ok, Err, All, if◌then◌else◌}
 use Rattle.std.specs.Int.{abs_diff}
 use Rattle.t1s_script.specs.declared.fitness.Unfit.{Unfit}
 use Rattle.t1s_script.specs.declared.script.NodeLine.{NodeLine}

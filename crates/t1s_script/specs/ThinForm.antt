@@ -1,15 +1,13 @@
 -- The thin form: the line `t1s 1`, the line `count N`, one to sixteen lines `node NO ID PLACE` in strictly
 -- ascending number, the line `end T`, and no line after it.
-use Rattle.std.specs.Prelude.{ℕ, ◌+◌, ◌≡◌, ◌≤◌, ◌&&◌, Bool, true, false, List, [], ◌∷◌, map, nat_le, length, codes, Ok, Err, All}
+use Rattle.std.specs.Prelude.{ℕ, ◌+◌, ◌≡◌, ◌&&◌, Bool, true, false, List, [], ◌∷◌, map, nat_le, length, codes, Ok, All}
 use Rattle.std.specs.Str.{bytes_eq}
 use Rattle.t1s_script.specs.Lines.{lines_of}
 use Rattle.t1s_script.specs.Saying.{Said, said}
-use Rattle.t1s_script.specs.Script.{IsScript}
 use Rattle.t1s_script.specs.Reading.{script_of}
 use Rattle.t1s_script.specs.declared.script.NodeLine.{NodeLine}
 use Rattle.t1s_script.specs.declared.script.Script.{Script}
 use Rattle.t1s_script.specs.declared.words.Setting.TheVariants.{Count}
-use Rattle.t1s_script.specs.declared.words.ScriptLine.{ScriptLine}
 use Rattle.t1s_script.specs.declared.words.ScriptLine.TheVariants.{Set, Node, End}
 
 -- further `node` lines, each of them of that number at least, and then `end` as the last line

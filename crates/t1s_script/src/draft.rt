@@ -165,11 +165,14 @@ impl Draft {
         if self.slot(no).is_some() {
             return Err(ScriptReason::Twice);
         }
-        self.put(no, Slot {
-            id,
-            place,
-            start: None,
-        });
+        self.put(
+            no,
+            Slot {
+                id,
+                place,
+                start: None,
+            },
+        );
         Ok(())
     }
 
@@ -182,10 +185,13 @@ impl Draft {
         if slot.start.is_some() {
             return Err(ScriptReason::Twice);
         }
-        self.put(no, Slot {
-            start: Some(start),
-            ..slot
-        });
+        self.put(
+            no,
+            Slot {
+                start: Some(start),
+                ..slot
+            },
+        );
         Ok(())
     }
 

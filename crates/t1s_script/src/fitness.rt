@@ -1,5 +1,5 @@
 //! Which scripts are fit, how wide a segment is, and how long a start takes at most.
-ghost use Rattle.std.specs.Prelude.{◌≡◌, ◌≤◌, ◌↔◌, ◌==◌, Err, IsOk, find};
+ghost use Rattle.std.specs.Prelude.{◌≡◌, ◌≤◌, ◌↔◌, ◌==◌, Err, IsOk, find, nat_le, not};
 ghost use Rattle.t1s_script.specs.declared.script.NodeLine.{NodeLine};
 ghost use Rattle.t1s_script.specs.Fit.{IsFit, farthest, fitness_of, longest_opportunity, span_of, start_bound, unmet, with_high_id, with_long_bursts, with_long_cable, with_other_timer, with_repeat, without_one_coordinator};
 
@@ -101,7 +101,11 @@ fn one_coordinator(nodes: &[NodeLine]) -> Result<(), Unfit>
     ensures { result ≡ fitness_of (without_one_coordinator nodes.now) }
 {
     let count = nodes.iter().filter(|node| node.id == 0).count() as u64;
-    if count == 1 { Ok(()) } else { unmet_premise(1, count, 1) }
+    if count == 1 {
+        Ok(())
+    } else {
+        unmet_premise(1, count, 1)
+    }
 }
 
 /// The first of the nodes with that ID.
@@ -124,21 +128,35 @@ fn distinct_ids(nodes: &[NodeLine]) -> Result<(), Unfit>
     Ok(())
 }
 
+/// The first of the nodes whose ID isn't below the count.
+fn node_with_high_id(nodes: &[NodeLine], count: u8) -> Option<NodeLine>
+    ensures { result ≡ find (λ (n : NodeLine). nat_le count n.id) nodes.now }
+{
+    nodes.iter().copied().find(|node| count <= node.id)
+}
+
 /// Premise 3: each ID is below the count.
 fn low_ids(nodes: &[NodeLine], count: u8) -> Result<(), Unfit>
     ensures { result ≡ fitness_of (with_high_id count nodes.now) }
 {
-    match nodes.iter().copied().find(|node| count <= node.id) {
+    match node_with_high_id(nodes, count) {
         Some(node) => unmet_premise(3, wide(node.id), wide(count)),
         None => Ok(()),
     }
+}
+
+/// The first of the nodes with another timer.
+fn node_with_other_timer(nodes: &[NodeLine], to: u8) -> Option<NodeLine>
+    ensures { result ≡ find (λ (n : NodeLine). not (n.to == to)) nodes.now }
+{
+    nodes.iter().copied().find(|node| node.to != to)
 }
 
 /// Premise 4: each node has the timer of the script.
 fn one_timer(nodes: &[NodeLine], to: u8) -> Result<(), Unfit>
     ensures { result ≡ fitness_of (with_other_timer to nodes.now) }
 {
-    match nodes.iter().copied().find(|node| node.to != to) {
+    match node_with_other_timer(nodes, to) {
         Some(node) => unmet_premise(4, wide(node.to), wide(to)),
         None => Ok(()),
     }

@@ -1,0 +1,79 @@
+-- The nodes of the slots of a draft.
+use Rattle.std.proofs.Common.{◌≡◌, ℕ, zero, suc, ◌+◌, ◌<◌, ◌≤◌, true, List, [], ◌∷◌, length, get_or, map, Option, Some, None, refl, arith, All, unwrap_or}
+use Rattle.std.specs.Prelude.{is_some}
+use Rattle.std.specs.List.{list_any}
+use Rattle.std.specs.List.Sorted.{IsStrictlyIncreasing}
+use native.Mathlib.Numerals.{unary_clauses}
+use Rattle.std.proofs.lemmas.List.Elements.{All-cons, All-nil}
+use Rattle.t1s_script.specs.Draft.{node_of, nodes_from}
+use Rattle.t1s_script.specs.Script.{IsNodeLine}
+use Rattle.t1s_script.specs.declared.draft.Slot.{Slot}
+use Rattle.t1s_script.specs.declared.script.NodeLine.{NodeLine}
+
+-- the numbers of a slot are in their ranges
+pub record IsSlot (slot : Slot) : Type 0 where
+  pub id : slot.id ≤ 255
+  pub place : slot.place ≤ 255
+  pub start : (t : ℕ) → slot.start ≡ Some t → t ≤ 2000000
+
+-- each slot that is taken is in range
+pub record AreSlots (slots : List (Option Slot)) : Type 0 where
+  pub each : (i : ℕ) (slot : Slot) → get_or slots i None ≡ Some slot → IsSlot slot
+
+tail_slots : (o : Option Slot) (slots : List (Option Slot)) → AreSlots (o ∷ slots) → AreSlots slots
+tail_slots o slots h = record { each = λ i slot e. h.each (suc i) slot e }
+
+start_range : (o : Option ℕ) → ((t : ℕ) → o ≡ Some t → t ≤ 2000000) → unwrap_or o 0 ≤ 2000000
+start_range None h = omega arith
+start_range (Some t) h = h t refl
+
+node_range : (to number : ℕ) (slot : Slot) → 16 ≤ to → to ≤ 255 → number ≤ 15 → IsSlot slot → IsNodeLine (node_of to number slot)
+node_range to number slot low high few h = record {
+  no_high = few;
+  id_high = h.id;
+  place_high = h.place;
+  to_low = low;
+  to_high = high;
+  start_high = start_range slot.start h.start;
+}
+
+pub nodes_range : (to number : ℕ) (slots : List (Option Slot)) → 16 ≤ to → to ≤ 255 → number + length slots ≤ 16 → AreSlots slots → All IsNodeLine (nodes_from to number slots)
+nodes_range to number [] low high few h = All-nil IsNodeLine
+nodes_range to number (None ∷ slots) low high few h = nodes_range to (number + 1) slots low high (omega arith) (tail_slots None slots h)
+nodes_range to number (Some slot ∷ slots) low high few h =
+    All-cons IsNodeLine (node_of to number slot) (nodes_from to (number + 1) slots)
+    (node_range to number slot low high (omega arith) (h.each 0 slot refl))
+    (nodes_range to (number + 1) slots low high (omega arith) (tail_slots (Some slot) slots h))
+
+pub length-nodes_from : (to number : ℕ) (slots : List (Option Slot)) → length (nodes_from to number slots) ≤ length slots
+length-nodes_from to number [] = omega arith
+length-nodes_from to number (None ∷ slots) = omega (arith, length-nodes_from to (number + 1) slots)
+length-nodes_from to number (Some slot ∷ slots) = omega (arith, length-nodes_from to (number + 1) slots)
+
+pub some_node : (to number : ℕ) (slots : List (Option Slot)) → list_any is_some slots ≡ true → 1 ≤ length (nodes_from to number slots)
+some_node to number [] e = cc
+some_node to number (None ∷ slots) e = some_node to (number + 1) slots e
+some_node to number (Some slot ∷ slots) e = omega arith
+
+-- ---- their order
+
+abbrev pub numbers : List NodeLine → List ℕ
+numbers nodes = map (λ (n : NodeLine). n.no) nodes
+
+-- the numbers of the nodes from a slot on are that slot's at least
+numbers_above : (to number : ℕ) (slots : List (Option Slot)) (k : ℕ) → k < length (numbers (nodes_from to number slots)) → number ≤ get_or (numbers (nodes_from to number slots)) k 0
+numbers_above to number [] k below = absurd (omega arith)
+numbers_above to number (None ∷ slots) k below = omega (arith, numbers_above to (number + 1) slots k below)
+numbers_above to number (Some slot ∷ slots) zero below = omega arith
+numbers_above to number (Some slot ∷ slots) (suc k) below = omega (arith, numbers_above to (number + 1) slots k (omega arith))
+
+increasing_cons : (x : ℕ) (xs : List ℕ) → IsStrictlyIncreasing xs → ((k : ℕ) → k < length xs → x < get_or xs k 0) → IsStrictlyIncreasing (x ∷ xs)
+increasing_cons x xs up above zero h = above 0 (omega arith)
+increasing_cons x xs up above (suc k) h = simp unary_clauses (simp unary_clauses at (up k (omega arith)))
+
+pub nodes_increase : (to number : ℕ) (slots : List (Option Slot)) → IsStrictlyIncreasing (numbers (nodes_from to number slots))
+nodes_increase to number [] = λ k h. absurd (omega arith)
+nodes_increase to number (None ∷ slots) = nodes_increase to (number + 1) slots
+nodes_increase to number (Some slot ∷ slots) =
+    increasing_cons number (numbers (nodes_from to (number + 1) slots)) (nodes_increase to (number + 1) slots)
+    (λ k below. omega (arith, numbers_above to (number + 1) slots k below))

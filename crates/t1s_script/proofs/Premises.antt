@@ -1,0 +1,177 @@
+-- A script is fit exactly where no premise is unmet.
+use Rattle.std.proofs.Common.{◌≡◌, ◌≢◌, ℕ, zero, suc, ◌+◌, ◌*◌, ◌<◌, ◌≤◌, ◌⊎◌, inl, inr, Bool, true, false, cond, leb, ltb, List, [], ◌∷◌, ◌++◌, length, get_or, Option, Some, None, refl, sym, ◌∙◌, ap, subst, arith, All}
+use Rattle.std.specs.Prelude.{◌==◌, not, nat_le, find, slice_get, IsOk, Result}
+use Rattle.std.proofs.lemmas.Bool.Decides.{nat_tests}
+use Rattle.std.proofs.lemmas.Option.{slice_get-get_or, slice_get_within, get_or_from_slice_get}
+use Rattle.t1s_script.specs.Fit.{coordinators, fitness_of, high_id, IsFit, or_else, other_timer, repeat_or, span_of, unfit, unmet, with_high_id, with_long_bursts, with_long_cable, with_other_timer, with_repeat, with_repeat_after, without_one_coordinator}
+use Rattle.t1s_script.specs.declared.fitness.Unfit.{Unfit}
+use Rattle.t1s_script.specs.declared.script.NodeLine.{NodeLine}
+use Rattle.t1s_script.specs.declared.script.Script.{Script}
+
+-- ---- finding nothing
+
+cond_none : {X : Type 0} (b : Bool) (x : X) (r : Option X) → cond b (Some x) r ≡ None → (b ≡ false) × (r ≡ None)
+cond_none true x r e = cc
+cond_none false x r e = (refl, e)
+
+find_none : {X : Type 0} (p : X → Bool) (xs : List X) → find p xs ≡ None → (i : ℕ) (x : X) → slice_get xs i ≡ Some x → p x ≡ false
+find_none p [] e i x at = cc
+find_none p (y ∷ ys) e zero x at = let same : y ≡ x = cc in subst (λ z. p z ≡ false) same (cond_none (p y) y (find p ys) e).0
+find_none p (y ∷ ys) e (suc i) x at = find_none p ys (cond_none (p y) y (find p ys) e).1 i x at
+
+none_find : {X : Type 0} (p : X → Bool) (xs : List X) → ((i : ℕ) (x : X) → slice_get xs i ≡ Some x → p x ≡ false) → find p xs ≡ None
+none_find p [] h = refl
+none_find p (y ∷ ys) h =
+    let fails : p y ≡ false = h 0 y refl in
+    ap (λ b. cond b (Some y) (find p ys)) fails ∙ none_find p ys (λ i x at. h (suc i) x at)
+
+-- ---- elements of longer lists
+
+get_left : {X : Type 0} (xs ys : List X) (i : ℕ) (x : X) → slice_get xs i ≡ Some x → slice_get (xs ++ ys) i ≡ Some x
+get_left [] ys i x at = cc
+get_left (y ∷ xs) ys zero x at = at
+get_left (y ∷ xs) ys (suc i) x at = get_left xs ys i x at
+
+get_last : {X : Type 0} (xs : List X) (x : X) → slice_get (xs ++ x ∷ []) (length xs) ≡ Some x
+get_last [] x = refl
+get_last (y ∷ xs) x = get_last xs x
+
+get_push : {X : Type 0} (xs : List X) (y : X) (i : ℕ) (x : X) → slice_get (xs ++ y ∷ []) i ≡ Some x → (slice_get xs i ≡ Some x) ⊎ (y ≡ x)
+get_push [] y zero x at = inr (let same : y ≡ x = cc in same)
+get_push [] y (suc i) x at = cc
+get_push (z ∷ xs) y zero x at = inl at
+get_push (z ∷ xs) y (suc i) x at = get_push xs y i x at
+
+-- ---- distinct IDs
+
+-- no node of the first list has the ID of one of the second
+abbrev Apart : List NodeLine → List NodeLine → Type 0
+Apart before nodes = (i j : ℕ) (m n : NodeLine) → slice_get before i ≡ Some m → slice_get nodes j ≡ Some n → m.id ≢ n.id
+
+abbrev Distinct : List NodeLine → Type 0
+Distinct nodes = (i j : ℕ) (m n : NodeLine) → slice_get nodes i ≡ Some m → slice_get nodes j ≡ Some n → i < j → m.id ≢ n.id
+
+repeat_none : (n : NodeLine) (o : Option NodeLine) (later : Option Unfit) → repeat_or n o later ≡ None → (o ≡ None) × (later ≡ None)
+repeat_none n (Some m) later e = cc
+repeat_none n None later e = (refl, e)
+
+distinct_from_none : (before nodes : List NodeLine) → with_repeat_after before nodes ≡ None → Apart before nodes × Distinct nodes
+distinct_from_none before [] e = (λ i j m n at there. cc, λ i j m n at there below. cc)
+distinct_from_none before (x ∷ xs) e =
+    let first = repeat_none x (find (λ (m : NodeLine). m.id == x.id) before) (with_repeat_after (before ++ x ∷ []) xs) e in
+    let rest = distinct_from_none (before ++ x ∷ []) xs first.1 in
+    (apart first.0 rest.0, distinct rest.0 rest.1)
+  where
+    apart : find (λ (m : NodeLine). m.id == x.id) before ≡ None → Apart (before ++ x ∷ []) xs → Apart before (x ∷ xs)
+    apart none later i zero m n at there =
+        let fails : (m.id == x.id) ≡ false = find_none (λ (m : NodeLine). m.id == x.id) before none i m at in
+        let same : x ≡ n = cc in
+        subst (λ (k : NodeLine). m.id ≢ k.id) same (λ equal. absurd (grind (arith, nat_tests)))
+    apart none later i (suc j) m n at there = later i j m n (get_left before (x ∷ []) i m at) there
+
+    distinct : Apart (before ++ x ∷ []) xs → Distinct xs → Distinct (x ∷ xs)
+    distinct later more i zero m n at there below = absurd (omega arith)
+    distinct later more zero (suc j) m n at there below =
+        let same : x ≡ m = cc in
+        later (length before) j m n (get_last before x ∙ ap Some same) there
+    distinct later more (suc i) (suc j) m n at there below = more i j m n at there (omega arith)
+
+none_from_distinct : (before nodes : List NodeLine) → Apart before nodes → Distinct nodes → with_repeat_after before nodes ≡ None
+none_from_distinct before [] a d = refl
+none_from_distinct before (x ∷ xs) a d =
+    let none : find (λ (m : NodeLine). m.id == x.id) before ≡ None =
+    none_find (λ (m : NodeLine). m.id == x.id) before (λ i m at. differs m (a i 0 m x at refl)) in
+    ap (λ o. repeat_or x o (with_repeat_after (before ++ x ∷ []) xs)) none
+    ∙ none_from_distinct (before ++ x ∷ []) xs apart (λ i j m n at there below. d (suc i) (suc j) m n at there (omega arith))
+  where
+    differs : (m : NodeLine) → m.id ≢ x.id → (m.id == x.id) ≡ false
+    differs m h = grind (arith, nat_tests)
+
+    apart : Apart (before ++ x ∷ []) xs
+    apart i j m n at there = elim (get_push before x i m at) [
+      | inl here ↦ a i (suc j) m n here there
+      | inr same ↦ d 0 (suc j) m n (ap Some same) there (omega arith)
+    ]
+
+-- ---- a test of each node
+
+all_from_none : (P : NodeLine → Type 0) (p : NodeLine → Bool) (nodes : List NodeLine) → ((n : NodeLine) → p n ≡ false → P n) → find p nodes ≡ None → All P nodes
+all_from_none P p nodes means e k d below = means (get_or nodes k d) (find_none p nodes e k (get_or nodes k d) (slice_get-get_or nodes k d below))
+
+none_from_all : (P : NodeLine → Type 0) (p : NodeLine → Bool) (nodes : List NodeLine) → ((n : NodeLine) → P n → p n ≡ false) → All P nodes → find p nodes ≡ None
+none_from_all P p nodes means all =
+    none_find p nodes (λ k n at. means n (subst P (get_or_from_slice_get nodes k n n at) (all k n (slice_get_within nodes k n at))))
+
+high_none : (count : ℕ) (o : Option NodeLine) → high_id count o ≡ None → o ≡ None
+high_none count (Some n) e = cc
+high_none count None e = refl
+
+other_none : (to : ℕ) (o : Option NodeLine) → other_timer to o ≡ None → o ≡ None
+other_none to (Some n) e = cc
+other_none to None e = refl
+
+-- ---- all premises
+
+else_none : (a b : Option Unfit) → or_else a b ≡ None → (a ≡ None) × (b ≡ None)
+else_none (Some u) b e = cc
+else_none None b e = (refl, e)
+
+one_from_none : (nodes : List NodeLine) → without_one_coordinator nodes ≡ None → coordinators nodes ≡ 1
+one_from_none nodes e = go (coordinators nodes) e
+  where
+    go : (k : ℕ) → cond (k == 1) None (unfit 1 k 1) ≡ None → k ≡ 1
+    go k e = test (k == 1) refl e
+      where
+        test : (b : Bool) → (k == 1) ≡ b → cond b None (unfit 1 k 1) ≡ None → k ≡ 1
+        test true h e = grind (arith, nat_tests)
+        test false h e = cc
+
+short_from_none : (burst : ℕ) → with_long_bursts burst ≡ None → burst ≤ 15
+short_from_none burst e = test (leb burst 15) refl e
+  where
+    test : (b : Bool) → leb burst 15 ≡ b → cond b None (unfit 6 burst 15) ≡ None → burst ≤ 15
+    test true h e = grind (arith, nat_tests)
+    test false h e = cc
+
+cable_from_none : (s : Script) → with_long_cable s ≡ None → 2 * span_of s + s.rise < s.to
+cable_from_none s e = test (ltb (2 * span_of s + s.rise) s.to) refl e
+  where
+    test : (b : Bool) → ltb (2 * span_of s + s.rise) s.to ≡ b → cond b None (unfit 7 (2 * span_of s + s.rise) s.to) ≡ None → 2 * span_of s + s.rise < s.to
+    test true h e = grind (arith, nat_tests)
+    test false h e = cc
+
+fit_from_none : (s : Script) → unmet s ≡ None → IsFit s
+fit_from_none s e =
+    let one = else_none (without_one_coordinator s.nodes) (or_else (with_repeat s.nodes) (or_else (with_high_id s.count s.nodes) (or_else (with_other_timer s.to s.nodes) (or_else (with_long_bursts s.burst) (with_long_cable s))))) e in
+    let two = else_none (with_repeat s.nodes) (or_else (with_high_id s.count s.nodes) (or_else (with_other_timer s.to s.nodes) (or_else (with_long_bursts s.burst) (with_long_cable s)))) one.1 in
+    let three = else_none (with_high_id s.count s.nodes) (or_else (with_other_timer s.to s.nodes) (or_else (with_long_bursts s.burst) (with_long_cable s))) two.1 in
+    let four = else_none (with_other_timer s.to s.nodes) (or_else (with_long_bursts s.burst) (with_long_cable s)) three.1 in
+    let six = else_none (with_long_bursts s.burst) (with_long_cable s) four.1 in
+    record {
+      one_coordinator = one_from_none s.nodes one.0;
+      distinct_ids = (distinct_from_none [] s.nodes two.0).1;
+      low_ids = all_from_none (λ n. n.id < s.count) (λ n. nat_le s.count n.id) s.nodes (λ n h. grind (arith, nat_tests)) (high_none s.count (find (λ (n : NodeLine). nat_le s.count n.id) s.nodes) three.0);
+      one_timer = all_from_none (λ n. n.to ≡ s.to) (λ n. not (n.to == s.to)) s.nodes (λ n h. grind (arith, nat_tests)) (other_none s.to (find (λ (n : NodeLine). not (n.to == s.to)) s.nodes) four.0);
+      short_bursts = short_from_none s.burst six.0;
+      short_cable = cable_from_none s six.1;
+    }
+
+none_from_fit : (s : Script) → IsFit s → unmet s ≡ None
+none_from_fit s h =
+    let one : without_one_coordinator s.nodes ≡ None = ap (λ k. cond (k == 1) None (unfit 1 k 1)) h.one_coordinator in
+    let two : with_repeat s.nodes ≡ None = none_from_distinct [] s.nodes (λ i j m n at there. cc) h.distinct_ids in
+    let three : with_high_id s.count s.nodes ≡ None = ap (high_id s.count) (none_from_all (λ n. n.id < s.count) (λ n. nat_le s.count n.id) s.nodes (λ n low. grind (arith, nat_tests)) h.low_ids) in
+    let four : with_other_timer s.to s.nodes ≡ None = ap (other_timer s.to) (none_from_all (λ n. n.to ≡ s.to) (λ n. not (n.to == s.to)) s.nodes (λ n same. grind (arith, nat_tests)) h.one_timer) in
+    let few : leb s.burst 15 ≡ true = (let small = h.short_bursts in grind (arith, nat_tests)) in
+    let six : with_long_bursts s.burst ≡ None = ap (λ b. cond b None (unfit 6 s.burst 15)) few in
+    let near : ltb (2 * span_of s + s.rise) s.to ≡ true = (let small = h.short_cable in grind (arith, nat_tests)) in
+    let seven : with_long_cable s ≡ None = ap (λ b. cond b None (unfit 7 (2 * span_of s + s.rise) s.to)) near in
+    rw (one, two, three, four, six, seven) refl
+
+-- an answer that tells the unmet premise is Ok exactly for a fit script
+pub ok_where_fit : (s : Script) (r : Result (Unit {0}) Unfit) → r ≡ fitness_of (unmet s) → (IsOk r → IsFit s) × (IsFit s → IsOk r)
+ok_where_fit s r e = (λ ok. fit_from_none s (none_where_ok (unmet s) (subst IsOk e ok)), λ fit. subst IsOk (sym (e ∙ ap fitness_of (none_from_fit s fit))) refl)
+  where
+    none_where_ok : (o : Option Unfit) → IsOk (fitness_of o) → o ≡ None
+    none_where_ok None ok = refl
+    none_where_ok (Some u) ok = cc

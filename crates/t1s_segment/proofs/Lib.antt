@@ -4,3 +4,4 @@ pub mod Silents
 pub mod Rounds
 pub mod BeaconTicks
 pub mod Parts
+pub mod SameRuns

@@ -1,6 +1,7 @@
 pub mod Carrier
 pub mod Receiver
 pub mod Transmitter
+pub mod TransmitterPart
 pub mod Node
 pub mod Told
 pub mod Totals

@@ -123,7 +123,7 @@ impl Closing {
 }
 
 impl State {
-    /// Whether a symbol is driven. In Quiet there is none, and each tick is a symbol boundary.
+    /// Whether no symbol is driven, so that each tick is a symbol boundary.
     pub fn is_quiet(&self) -> bool
         ensures { result ≡ is_quiet (stage_of self.now) }
     {

@@ -3,7 +3,7 @@ use Rattle.std.specs.Prelude.{ℕ, List, [], ◌∷◌, ◌++◌, Option, None, 
 use Rattle.std.specs.List.{join_with_byte}
 use Rattle.t1s_script.specs.declared.refusals.ScriptRefusal.{ScriptRefusal}
 use Rattle.t1s_script.specs.declared.refusals.ScriptReason.{ScriptReason}
-use Rattle.t1s_script.specs.declared.refusals.ScriptReason.TheVariants.{TooLong, FirstLine, UnknownWord}
+use Rattle.t1s_script.specs.declared.refusals.ScriptReason.TheVariants.{TooLong, FirstLine, AfterEnd, UnknownWord, Form, Number, OutOfRange, Twice, UnknownNode, NoNode, NoEnd}
 use Rattle.t1s_segment.specs.declared.totals.NodeTotals.{NodeTotals}
 use Rattle.t1s_segment.specs.Told.{Told, StatusTold, BeaconTold, QuietTold}
 
@@ -38,7 +38,15 @@ totals_line n = line (
 abbrev pub reason_name : ScriptReason → List ℕ
 reason_name TooLong = codes "TooLong"
 reason_name FirstLine = codes "FirstLine"
+reason_name AfterEnd = codes "AfterEnd"
 reason_name UnknownWord = codes "UnknownWord"
+reason_name Form = codes "Form"
+reason_name Number = codes "Number"
+reason_name OutOfRange = codes "OutOfRange"
+reason_name Twice = codes "Twice"
+reason_name UnknownNode = codes "UnknownNode"
+reason_name NoNode = codes "NoNode"
+reason_name NoEnd = codes "NoEnd"
 
 -- the line of a refusal
 abbrev pub refused_line : ScriptRefusal → List ℕ

@@ -101,7 +101,15 @@ fn reason_name(reason: ScriptReason) -> &'static [u8]
     match reason {
         ScriptReason::TooLong => b"TooLong",
         ScriptReason::FirstLine => b"FirstLine",
+        ScriptReason::AfterEnd => b"AfterEnd",
         ScriptReason::UnknownWord => b"UnknownWord",
+        ScriptReason::Form => b"Form",
+        ScriptReason::Number => b"Number",
+        ScriptReason::OutOfRange => b"OutOfRange",
+        ScriptReason::Twice => b"Twice",
+        ScriptReason::UnknownNode => b"UnknownNode",
+        ScriptReason::NoNode => b"NoNode",
+        ScriptReason::NoEnd => b"NoEnd",
     }
 }
 

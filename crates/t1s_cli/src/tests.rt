@@ -70,7 +70,7 @@ fn each_answer_has_its_text(rt: HostRuntime) -> Result<(), Fail> {
             none,
             none,
             Status::Refused,
-            b"refused 2 UnknownWord\n".as_slice(),
+            b"refused 3 NoEnd\n".as_slice(),
         ),
         (
             run,
@@ -78,7 +78,7 @@ fn each_answer_has_its_text(rt: HostRuntime) -> Result<(), Fail> {
             none,
             none,
             Status::Refused,
-            b"refused 6 UnknownWord\n".as_slice(),
+            b"refused 6 NoEnd\n".as_slice(),
         ),
         (&[], SCRIPT, none, none, Status::Usage, b"".as_slice()),
         (
@@ -125,6 +125,23 @@ fn each_answer_has_its_text(rt: HostRuntime) -> Result<(), Fail> {
         assert_eq!(rt; answer, status);
         assert_eq!(rt; written.as_slice(), text);
     }
+    Ok(())
+}
+
+const LATE: &[u8] = b"t1s 1\ncount 3\nnode 0 0 0\nnode 1 1 2\nlate 1 8380\nend 8600\n";
+
+const LATE_REPORT: &[u8] =
+    b"8256 status 0 ok\n8256 beacon 0\n8276 quiet 0\n8376 beacon 0\n8396 quiet 0\n\
+8496 beacon 0\n8516 quiet 0\n8522 status 1 ok\nsettled 8522\n\
+node 0 sent 0 full 0 jam 0 drop 0 good 0 bad 0 clash 0\n\
+node 1 sent 0 full 0 jam 0 drop 0 good 0 bad 0 clash 0\n";
+
+#[test]
+fn a_late_follower_waits_for_a_whole_beacon(rt: HostRuntime) -> Result<(), Fail> {
+    let octets = QuietSource::new(Vec::from_slice(rt.alloc(), LATE)?);
+    let (answer, written) = call(rt.alloc(), &["run"], octets, &[])?;
+    assert_eq!(rt; answer, Status::Done);
+    assert_eq!(rt; written.as_slice(), LATE_REPORT);
     Ok(())
 }
 

@@ -4,6 +4,7 @@ ghost use Rattle.t1s_base.specs.Causes.{Rose};
 ghost use Rattle.t1s_base.specs.Octets.{Gives, Grows, GrowsByFront};
 ghost use Rattle.t1s_script.specs.Reading.{script_of};
 ghost use Rattle.t1s_script.specs.Script.{IsScript};
+ghost use Rattle.t1s_script.specs.ThinForm.{has_thin_form};
 ghost use Rattle.t1s_script.specs.declared.script.Script.{Script};
 ghost use Rattle.t1s_script.specs.declared.refusals.ScriptRefusal.{ScriptRefusal};
 ghost use Rattle.t1s_capture.specs.declared.items.Refusal.{Refusal};
@@ -106,7 +107,8 @@ pub fn workbench<S: Source, K: Sink>(
     ensures other_input_is_refused { (octets : List ℕ) (refusal : ScriptRefusal) → AreRun words.now → S.left source.old ≡ Some octets → script_of octets ≡ Err refusal →
         ¬ (Rose (S.faults source.old) (S.faults source.new)) → ¬ (Rose (K.faults sink.old) (K.faults sink.new)) →
         (result ≡ Status.Refused) ⊎ (result ≡ Status.Memory) }
-    ensures beacons { (octets : List ℕ) (s : Script) → AreRun words.now → S.left source.old ≡ Some octets → script_of octets ≡ Ok s → HasBeacons s }
+    ensures beacons { (octets : List ℕ) (s : Script) → AreRun words.now → S.left source.old ≡ Some octets → has_thin_form octets ≡ true →
+        script_of octets ≡ Ok s → HasBeacons s }
     ensures decoded { (octets : List ℕ) → AreDecode words.now → S.left source.old ≡ Some octets → result ≡ Status.Done →
         (text : List ℕ) × IsCaptureText octets text × Grows (K.written sink.old) (K.written sink.new) text }
     ensures decode_refused { (octets : List ℕ) → AreDecode words.now → S.left source.old ≡ Some octets → result ≡ Status.Refused →

@@ -14,9 +14,9 @@ use Rattle.t1s_segment.specs.Node.{node_start}
 use Rattle.t1s_segment.specs.Totals.{totals_with, after_clash}
 use Rattle.t1s_segment.specs.Track.{Happened, Sensed, track_machine}
 
--- what the control of a node is set to. A thin script has no bursts
+-- what the control of a node is set to
 abbrev pub set_of : Script → NodeLine → ControlSet
-set_of s n = record { id = n.id; count = s.count; to = n.to; burst = 0 }
+set_of s n = record { id = n.id; count = s.count; to = n.to; burst = s.burst }
 
 -- a node before its first tick
 abbrev pub first_track : Script → NodeLine → Track

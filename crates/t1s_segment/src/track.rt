@@ -61,7 +61,7 @@ impl Track {
             id: line.id,
             count: script.count,
             to: line.to,
-            burst: 0,
+            burst: script.burst,
         };
         Track {
             no: line.no,

@@ -47,13 +47,13 @@ returns-in-Ok-clause-other_input_is_refused g c octets refusal words told reads 
     ends_rejected g.K.Sink.written g.K.Sink.faults g.K.Sink.finished c.args.sink.now c.run_octets.new.sink c.run_octets.result (script_of octets) refusal (ends_of_all g c octets told) reads calm_sink
 
 pub returns-in-Ok-clause-beacons : goal.returns-in-Ok-clause-beacons
-returns-in-Ok-clause-beacons g c octets s words left reads = has_beacons octets s reads
+returns-in-Ok-clause-beacons g c octets s words left form reads = has_beacons octets s form reads
 
 pub returns-in-Err-Failed-clause-beacons : goal.returns-in-Err-Failed-clause-beacons
-returns-in-Err-Failed-clause-beacons g c octets s words left reads = has_beacons octets s reads
+returns-in-Err-Failed-clause-beacons g c octets s words left form reads = has_beacons octets s form reads
 
 pub returns-in-Err-Memory-clause-beacons : goal.returns-in-Err-Memory-clause-beacons
-returns-in-Err-Memory-clause-beacons g c octets s words left reads = has_beacons octets s reads
+returns-in-Err-Memory-clause-beacons g c octets s words left form reads = has_beacons octets s form reads
 
 pub returns-in-Some-Decode-clause-capture_is_decoded : goal.returns-in-Some-Decode-clause-capture_is_decoded
 returns-in-Some-Decode-clause-capture_is_decoded g c octets words told capture within calm_source calm_sink =

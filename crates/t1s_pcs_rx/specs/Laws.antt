@@ -6,6 +6,10 @@ use Rattle.t1s_symbols.specs.declared.Heard.{Heard}
 use Rattle.t1s_symbols.specs.declared.Heard.TheVariants.{Nothing, One}
 use Rattle.t1s_scramble.specs.Scrambled.{descrambler_after}
 use Rattle.t1s_grammar.specs.Burst.{Piece, piece_symbols, IsBurst, beacon, run, bare}
+use Rattle.t1s_grammar.specs.Reading.{StandsForFrame}
+use Rattle.t1s_frame.specs.Frame.{IsFrame}
+use Rattle.t1s_pcs_rx.specs.declared.piece.Closer.TheVariants.{R}
+use Rattle.t1s_pcs_rx.specs.declared.piece.Kind.TheVariants.{Good}
 use Rattle.t1s_pcs_rx.specs.Receiver.{Receiver}
 use Rattle.t1s_pcs_rx.specs.Receive.{receive_step, receive_event}
 use Rattle.t1s_pcs_rx.specs.Views.{View, view_of}
@@ -54,3 +58,11 @@ abbrev pub PiecesAreHandedOn : Type 0
 PiecesAreHandedOn =
     (r : Receiver) (symbols : List Symbol) (burst : IsBurst symbols)
     → events_heard r (heard_burst symbols) ≡ None ∷ burst_events r.history burst
+
+-- The view of a piece that stands for a frame: closed by R, of kind Good, with the octets of the frame.
+abbrev pub FramesAreShown : Type 0
+FramesAreShown =
+    (past : List Bool) (piece : Piece) (octets : List ℕ)
+    → IsFrame octets → StandsForFrame past piece octets
+    → view_of past piece
+    ≡ record { lead = piece.lead; groups = length piece.nibbles; closer = R; kind = Good; frame = octets }

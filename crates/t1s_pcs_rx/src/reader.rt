@@ -106,8 +106,8 @@ impl Reader {
         self.nibbles.as_slice()
     }
 
-    #[tactic(auto, unfolding(crate::specs::Receive::receive_step, crate::specs::Receive::closing_in))]
     /// One tick: the end of a piece, where the tick closes one. `own` tells that the node drives in it.
+    #[tactic(auto, unfolding(crate::specs::Receive::receive_step, crate::specs::Receive::closing_in))]
     pub fn step(&mut self, heard: Heard, own: bool) -> Option<PieceEnd>
         requires { IsHeard heard }
         ensures after { self.new ≡ receive_step self.old heard own }

@@ -64,6 +64,16 @@ fn hear_groups(rx: &mut PcsRx, groups: &[u8], frame: &[u8]) -> Told {
     told
 }
 
+/// The first groups, as many as are asked for.
+fn front(groups: &[u8], count: usize) -> &[u8] {
+    &groups[..count.min(groups.len())]
+}
+
+/// The groups behind them.
+fn back(groups: &[u8], count: usize) -> &[u8] {
+    &groups[count.min(groups.len())..]
+}
+
 /// Hears groups behind nothing.
 fn hear_burst(rx: &mut PcsRx, groups: &[u8], frame: &[u8]) -> Told {
     let _ = rx.hear(Heard::Nothing, false);
@@ -103,16 +113,13 @@ fn a_piece_that_is_not_good_has_no_frame(rt: HostRuntime) -> Result<(), Fail> {
     assert_eq!(rt; told.pieces, 1);
     assert_eq!(rt; told.last, Some((2, 140, Closer::K, Kind::Errored, 0)));
     put_piece(&mut text, 2, &mut scrambler, &frame, true)?;
-    let length = text.as_slice().len();
-    if length == 146 {
-        let told = hear_burst(&mut rx, &text.as_slice()[..145], &[]);
-        assert_eq!(rt; told.pieces, 0);
-        let told = hear_groups(&mut rx, &[CUT], &[]);
-        assert_eq!(rt; told.pieces, 1);
-        assert_eq!(rt; told.last, Some((2, 140, Closer::S, Kind::Jabber, 0)));
-    } else {
-        assert!(rt; false);
-    }
+    let groups = text.as_slice();
+    assert_eq!(rt; groups.len(), 146);
+    let told = hear_burst(&mut rx, front(groups, 145), &[]);
+    assert_eq!(rt; told.pieces, 0);
+    let told = hear_groups(&mut rx, &[CUT], &[]);
+    assert_eq!(rt; told.pieces, 1);
+    assert_eq!(rt; told.last, Some((2, 140, Closer::S, Kind::Jabber, 0)));
     Ok(())
 }
 
@@ -124,19 +131,15 @@ fn a_torn_burst_hands_on_nothing_more(rt: HostRuntime) -> Result<(), Fail> {
     let mut rx = PcsRx::new();
     put_piece(&mut text, 2, &mut scrambler, &frame, true)?;
     let groups = text.as_slice();
-    if groups.len() == 146 {
-        let _ = hear_burst(&mut rx, &groups[..70], &[]);
-        let _ = rx.hear(Heard::Many, false);
-        assert_eq!(rt; rx.class(), Class::Run);
-        assert_eq!(rt; hear_groups(&mut rx, &groups[70..], &[]).pieces, 0);
-        assert_eq!(rt; hear_groups(&mut rx, groups, &[]).pieces, 0);
-        assert_eq!(rt; rx.class(), Class::Run);
-        let told = hear_burst(&mut rx, groups, frame.octets());
-        assert_eq!(rt; told.pieces, 1);
-        assert!(rt; told.same);
-    } else {
-        assert!(rt; false);
-    }
+    let _ = hear_burst(&mut rx, front(groups, 70), &[]);
+    let _ = rx.hear(Heard::Many, false);
+    assert_eq!(rt; rx.class(), Class::Run);
+    assert_eq!(rt; hear_groups(&mut rx, back(groups, 70), &[]).pieces, 0);
+    assert_eq!(rt; hear_groups(&mut rx, groups, &[]).pieces, 0);
+    assert_eq!(rt; rx.class(), Class::Run);
+    let told = hear_burst(&mut rx, groups, frame.octets());
+    assert_eq!(rt; told.pieces, 1);
+    assert!(rt; told.same);
     Ok(())
 }
 

@@ -6,7 +6,6 @@ use Rattle.t1s_symbols.specs.declared.Quarter.{Quarter}
 use Rattle.t1s_ring.specs.Queue.{Queue}
 use Rattle.t1s_ring.specs.declared.queued.Queued.{Queued}
 use Rattle.t1s_pcs_tx.specs.declared.TxCmd.{TxCmd}
-use Rattle.t1s_pcs_tx.specs.declared.TxIn.{TxIn}
 use Rattle.t1s_pcs_tx.specs.State.{TxState, Stage, Quiet, Beaconing, Committing, Starting, Sending, ClosingEnd, ClosingCloser, tx_start}
 use Rattle.t1s_pcs_tx.specs.Transmit.{TxTurn, transmit_step, report_of}
 use Rattle.plca_control.specs.declared.ControlSet.{ControlSet}

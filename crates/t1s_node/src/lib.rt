@@ -3,3 +3,5 @@
 //! The drive phase of a tick is `core_drive` in `specs/Core.antt`, on plain data: the tables of the four parts in
 //! their order, each fed with what the last tick left.
 #![tactic(auto)]
+
+pub mod laws;

@@ -30,7 +30,7 @@ lost_part xs front back e =
 module _ {D : Type 0} (answer : D → ℕ → ℕ) (after : D → D) (bounded : DrawsAreBounded answer) (start : Core D) (given : ℕ → CoreTick) (end : ℕ)
     (calm : Undisturbed answer after start given end) where
   -- control was active before tick t
-  abbrev Awake : ℕ → Type 0
+  abbrev pub Awake : ℕ → Type 0
   Awake t = (u : ℕ) × (u < t) × (active_at answer after start given u ≡ true)
 
   -- where a piece is open: the tick of its first pop, and the place after that

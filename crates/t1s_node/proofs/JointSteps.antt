@@ -38,7 +38,7 @@ stays_apart begun closed v v' out turns = go v v' (apart_turns false begun close
     go v v' (still out') = out'
     go _ _ (opens e) = absurd (cc)
 
-apart_of : (o r : ℕ) (v : View) → Aligned o v r → Apart v
+pub apart_of : (o r : ℕ) (v : View) → Aligned o v r → Apart v
 apart_of o _ _ even_away = away
 apart_of o r _ (odd_away h) = away
 apart_of o r _ (even_row m low h) = row low

@@ -16,3 +16,7 @@ pub mod Along
 pub mod Starts
 pub mod JamCount
 pub mod Ways
+pub mod Opens
+pub mod Whole
+pub mod FirstH
+pub mod Defers

@@ -1,0 +1,206 @@
+-- A frame that waits: it stays in Pending until the opportunity, and then control is in Transmit soon.
+use Rattle.std.proofs.Common.{◌≡◌, ℕ, zero, suc, ◌+◌, ◌-◌, ◌*◌, ◌==◌, ◌<◌, ◌≤◌, ◌⊎◌, inl, inr, true, false, List, [], ◌∷◌, refl, sym, ◌∙◌, ap, subst, arith, add-one}
+use Rattle.std.proofs.lemmas.Bool.{false≢true}
+use Rattle.std.proofs.lemmas.Bool.Decides.{nat_tests}
+use Rattle.t1s_ring.specs.Queue.{Queue}
+use Rattle.t1s_ring.specs.declared.queued.Queued.{Queued}
+use Rattle.plca_control.specs.declared.ControlSet.{ControlSet}
+use Rattle.plca_control.specs.declared.ControlIn.{ControlIn}
+use Rattle.plca_control.specs.declared.State.{State as ControlStage}
+use Rattle.plca_control.specs.declared.State.TheVariants.{Commit as CommitStage}
+use Rattle.plca_control.specs.ControlTable.{control_row, is_own}
+use Rattle.plca_control.specs.Runs.{is_transmit}
+use Rattle.plca_data.specs.declared.data_path.State.{State}
+use Rattle.plca_data.specs.declared.data_path.State.TheVariants.{Pending}
+use Rattle.plca_data.specs.DataPathTable.{begun}
+use Rattle.t1s_mac.specs.declared.deference.Deference.{Deference}
+use Rattle.t1s_mac.specs.declared.outcome.MacNote.{MacNote}
+use Rattle.t1s_mac.specs.State.{Phase}
+use Rattle.t1s_pcs_tx.specs.State.{Stage}
+use Rattle.t1s_node.specs.Core.{Core, core_offered, core_drive, control_in}
+use Rattle.t1s_node.specs.Laws.{is_commit}
+use Rattle.t1s_node.specs.Runs.{CoreTick, DrawsAreBounded, Undisturbed, core_offers, core_at, found_at, left_at, own_at, note_at}
+use Rattle.t1s_node.proofs.Along.{RunAt, ticks, run_at, after_tick, after_place, next_core}
+use Rattle.t1s_node.proofs.CoreSteps.{Stands}
+use Rattle.t1s_node.proofs.Joint.{Place, IsPending, Opens, Before, Goes, pends_on, pending_opens, opens_on, open_starts, Apart, away, row, Joint, idles, holds, collides, jams, delays, pends, waits, before, fed}
+use Rattle.t1s_node.proofs.JointSteps.{apart_of}
+use Rattle.t1s_node.proofs.View.{View, InCommit, own_of, view_of, view_own}
+
+pending_place : (place : Place) (v : View) (phase : Phase) (q : Queue) (d : Deference) (a : ℕ) (stage : Stage) (part : ℕ) (path : State) (line : List ℕ)
+    → Joint place v phase q d a stage part path line → path ≡ Pending → place ≡ IsPending
+pending_place _ v phase q _ _ stage part _ _ (pends out back free) e = refl
+pending_place _ _ _ _ _ _ _ _ _ _ _ e = absurd (cc)
+
+pending_path : (v : View) (phase : Phase) (q : Queue) (d : Deference) (a : ℕ) (stage : Stage) (part : ℕ) (path : State) (line : List ℕ)
+    → Joint IsPending v phase q d a stage part path line → path ≡ Pending
+pending_path v phase q _ _ stage part _ _ (pends out back free) = refl
+
+open_view : (n : ℕ) (v : View) (phase : Phase) (q : Queue) (d : Deference) (a : ℕ) (stage : Stage) (part : ℕ) (path : State) (line : List ℕ)
+    → Joint (Opens n) v phase q d a stage part path line → (v ≡ InCommit n) × (begun path ≡ false)
+open_view n _ _ q d _ stage part _ _ (waits opening some free) = (refl, refl)
+
+before_begun : (f : Queued) (k p r : ℕ) (v : View) (phase : Phase) (q : Queue) (d : Deference) (a : ℕ) (stage : Stage) (part : ℕ) (path : State) (line : List ℕ)
+    → Joint (Before f k p r) v phase q d a stage part path line → begun path ≡ true
+before_begun f k p r v _ q _ a stage part _ line (before own heads tries quarter near free feeds) = refl
+
+apart_not_commit : (n : ℕ) (v : View) → Apart v → v ≡ InCommit n → ⊥
+apart_not_commit n _ away e = cc
+apart_not_commit n _ (row low) e = cc
+
+-- in Commit the frame is awaited, or goes through the line
+commit_place : (n : ℕ) (place : Place) (v : View) (phase : Phase) (q : Queue) (d : Deference) (a : ℕ) (stage : Stage) (part : ℕ) (path : State) (line : List ℕ)
+    → Joint place v phase q d a stage part path line → v ≡ InCommit n → ((m : ℕ) × (place ≡ Opens m)) ⊎ (begun path ≡ true)
+commit_place n _ _ _ q d _ stage part _ _ (waits {n = m} opening some free) e = inl (m, refl)
+commit_place n _ v _ q _ a stage part _ line (before own heads tries quarter near free feeds) e = inr refl
+commit_place n _ v _ q _ a stage _ _ line (fed own heads tries quarter ahead least most tx feeds) e = inr refl
+commit_place n _ v phase q d _ stage part _ _ (idles out resting free) e = absurd (apart_not_commit n v out e)
+commit_place n _ v _ q _ _ stage part _ line (holds {k = k} {p = p} {r = r} heads early quarter free al feeds) e = absurd (apart_not_commit n v (apart_of (4 * k + p) r v al) e)
+commit_place n _ v _ q _ _ stage part _ _ (collides out heads within quarter free) e = absurd (apart_not_commit n v out e)
+commit_place n _ v _ q _ _ stage part _ _ (jams out some nibble quarter free) e = absurd (apart_not_commit n v out e)
+commit_place n _ v phase q _ _ stage part _ _ (delays out least back free) e = absurd (apart_not_commit n v out e)
+commit_place n _ v phase q _ _ stage part _ _ (pends out back free) e = absurd (apart_not_commit n v out e)
+commit_place n _ _ _ _ _ _ _ _ _ _ _ e = absurd (cc)
+
+-- control in Commit, by its view
+commit_view : (st : ControlStage) → is_commit st ≡ true → (n : ℕ) × (view_of st ≡ InCommit n)
+commit_view (CommitStage n b) e = (n, refl)
+commit_view _ e = absurd (cc)
+
+view_commit : (st : ControlStage) (n : ℕ) → view_of st ≡ InCommit n → is_commit st ≡ true
+view_commit (CommitStage m b) n e = refl
+view_commit _ n e = absurd (cc)
+
+count_of_commit : View → ℕ
+count_of_commit (InCommit n) = n
+count_of_commit _ = 0
+
+count_is : (m n : ℕ) → InCommit m ≡ InCommit n → m ≡ n
+unfolding count_of_commit
+count_is m n e = ap count_of_commit e
+
+commit_waits : (s : ControlSet) (st : ControlStage) (i : ControlIn) (n : ℕ) → view_of st ≡ InCommit n → 1 < n → i.begun ≡ false → is_commit (control_row s st i).0 ≡ true
+commit_waits s (CommitStage m b) i n e more none =
+    let same : m ≡ n = count_is m n e in
+    let other : (m == 1) ≡ false = grind (arith, nat_tests, same, more) in
+    rw (none, other) refl
+commit_waits s _ i n e more none = absurd (cc)
+
+commit_sends : (s : ControlSet) (st : ControlStage) (i : ControlIn) → is_commit st ≡ true → i.begun ≡ true → is_transmit (control_row s st i).0 ≡ true
+commit_sends s (CommitStage m b) i e some = rw some refl
+commit_sends s _ i e some = absurd (cc)
+
+opens_from : (place : Place) (n : ℕ) (note : MacNote) (popped : List ℕ) → Goes place note popped (Opens n) → (n ≡ 288) ⊎ ((m : ℕ) × (place ≡ Opens m))
+opens_from _ _ _ _ pending_opens = inl refl
+opens_from _ n _ _ (opens_on {n = m} e more) = inr (m, refl)
+
+module _ {D : Type 0} where
+  offers_path : (c : Core D) (qs : List Queued) → (core_offers c qs).path ≡ c.path
+  offers_path c [] = refl
+  offers_path c (q ∷ qs) = offers_path (core_offered c q) qs
+
+  offers_state : (c : Core D) (qs : List Queued) → (core_offers c qs).control.state ≡ c.control.state
+  offers_state c [] = refl
+  offers_state c (q ∷ qs) = offers_state (core_offered c q) qs
+
+module _ {D : Type 0} (answer : D → ℕ → ℕ) (after : D → D) (bounded : DrawsAreBounded answer) (start : Core D) (given : ℕ → CoreTick) (end : ℕ)
+    (calm : Undisturbed answer after start given end) where
+  abbrev Run : ℕ → Type 0
+  Run t = RunAt answer after bounded start given end calm t
+
+  abbrev found : ℕ → Core D
+  found t = found_at answer after start given t
+
+  abbrev left : ℕ → Core D
+  left t = left_at answer after start given t
+
+  own_is : (t : ℕ) → own_at answer after start given t ≡ is_own (left t).control.state
+  unfolding core_drive
+  own_is t = refl
+
+  state_is : (t : ℕ) → (left t).control.state ≡ (control_row (found t).control.set (found t).control.state (control_in (given t).sensed (found t))).0
+  unfolding core_drive
+  state_is t = refl
+
+  next_path : (t : ℕ) → (found (suc t)).path ≡ (left t).path
+  next_path t = offers_path (core_at answer after start given (suc t)) (given (suc t)).offers ∙ ap (λ (c : Core D). c.path) (next_core answer after bounded start given end calm t)
+
+  next_state : (t : ℕ) → (found (suc t)).control.state ≡ (left t).control.state
+  next_state t = offers_state (core_at answer after start given (suc t)) (given (suc t)).offers ∙ ap (λ (c : Core D). c.control.state) (next_core answer after bounded start given end calm t)
+
+  -- Pending
+  pends_step : (t : ℕ) (to : Place) (note : MacNote) (popped : List ℕ) → Goes IsPending note popped to → Stands to (left t)
+      → own_at answer after start given t ≡ false → (left t).path ≡ Pending
+  pends_step t _ _ _ pends_on h own = pending_path _ _ _ _ _ _ _ _ _ h.joint
+  pends_step t _ _ _ pending_opens h own =
+      let view = (open_view 288 _ _ _ _ _ _ _ _ _ h.joint).0 in
+      let owned : own_at answer after start given t ≡ true = own_is t ∙ (view_own (left t).control.state ∙ ap own_of view) in
+      absurd (false≢true (sym own ∙ owned))
+
+  pub pends_until_own : Run zero → (t : ℕ) → t < end → (left t).path ≡ Pending → own_at answer after start given (suc t) ≡ false → (left (suc t)).path ≡ Pending
+  pends_until_own begin t within pending own =
+      let run = run_at answer after bounded start given end calm begin (suc t) (omega arith) in
+      let tick = ticks answer after bounded start given end calm (suc t) within run in
+      let same = pending_place run.place _ _ _ _ _ _ _ _ _ tick.found.joint (next_path t ∙ pending) in
+      pends_step (suc t) tick.step.to (note_at answer after start given (suc t)) tick.step.popped
+      (subst (λ (p : Place). Goes p (note_at answer after start given (suc t)) tick.step.popped tick.step.to) same tick.step.goes) tick.step.stands own
+
+  -- Commit
+  transmits_now : (t : ℕ) → is_commit (found t).control.state ≡ true → begun (found t).path ≡ true → is_transmit (left t).control.state ≡ true
+  transmits_now t commit some =
+      rw (state_is t) (commit_sends (found t).control.set (found t).control.state (control_in (given t).sensed (found t)) commit some)
+
+  transmits_next : (t : ℕ) → is_commit (left t).control.state ≡ true → begun (left t).path ≡ true → is_transmit (left (suc t)).control.state ≡ true
+  transmits_next t commit some = transmits_now (suc t) (ap is_commit (next_state t) ∙ commit) (ap begun (next_path t) ∙ some)
+
+  abbrev Transmits : ℕ → ℕ → Type 0
+  Transmits t n = (u : ℕ) × (t ≤ u) × (u ≤ t + n) × (is_transmit (left u).control.state ≡ true)
+
+  descends : (m t n : ℕ) (to : Place) (note : MacNote) (popped : List ℕ) → n ≡ 191 + suc m → Goes (Opens n) note popped to → Stands (Opens n) (found t) → Stands to (left t)
+      → ((n' : ℕ) → n' ≡ 191 + m → 1 ≤ m → to ≡ Opens n' → Transmits (suc t) m) → Transmits t (suc m)
+  descends m t n _ _ _ count (opens_on {n' = n'} e more) from h again =
+      let (u, low, high, there) = again n' (omega (arith, e, count)) (omega (arith, e, count, more)) refl in
+      (u, omega (arith, low), omega (arith, high), there)
+  descends m t n _ _ _ count (open_starts {f = f} {r = r} e low) from h again =
+      let (view, none) = open_view n _ _ _ _ _ _ _ _ _ from.joint in
+      let commit : is_commit (left t).control.state ≡ true =
+      rw (state_is t) (commit_waits (found t).control.set (found t).control.state (control_in (given t).sensed (found t)) n view (omega (arith, e)) none) in
+      (suc t, omega arith, omega arith, transmits_next t commit (before_begun f 0 0 r _ _ _ _ _ _ _ _ _ h.joint))
+
+  descend : (m t n : ℕ) (run : Run t) → run.place ≡ Opens n → n ≡ 191 + m → 1 ≤ m → t + m ≤ end → Transmits t m
+  descend zero t n run same count some within = absurd (omega arith)
+  descend (suc m) t n run same count some within =
+      let tick = ticks answer after bounded start given end calm t (omega (arith, within)) run in
+      let next : Run (suc t) = after_tick answer after bounded start given end calm t run tick in
+      let place : next.place ≡ tick.step.to = after_place answer after bounded start given end calm t run tick in
+      descends m t n tick.step.to (note_at answer after start given t) tick.step.popped count
+      (subst (λ (p : Place). Goes p (note_at answer after start given t) tick.step.popped tick.step.to) same tick.step.goes)
+      (subst (λ (p : Place). Stands p (found t)) same tick.found) tick.step.stands
+      (λ n' count' some' to. descend m (suc t) n' next (place ∙ to) count' some' (omega (arith, within)))
+
+  pub commits_briefly : Run zero → (t : ℕ) → t + 98 ≤ end → is_commit (found t).control.state ≡ false → is_commit (left t).control.state ≡ true
+      → (k : ℕ) × (1 ≤ k) × (k ≤ 98) × (is_transmit (left (t + k)).control.state ≡ true)
+  commits_briefly begin t within before_it commit =
+      let run = run_at answer after bounded start given end calm begin t (omega arith) in
+      let tick = ticks answer after bounded start given end calm t (omega arith) run in
+      let next : Run (suc t) = after_tick answer after bounded start given end calm t run tick in
+      let place : next.place ≡ tick.step.to = after_place answer after bounded start given end calm t run tick in
+      let (n, view) = commit_view (left t).control.state commit in
+      elim (commit_place n tick.step.to _ _ _ _ _ _ _ _ _ tick.step.stands.joint view) [
+        | inl (m, opened) ↦
+            let full : m ≡ 288 = full_timer t m run.place (note_at answer after start given t) tick.step.popped tick.found before_it
+            (subst (λ (p : Place). Goes run.place (note_at answer after start given t) tick.step.popped p) opened tick.step.goes) in
+            let (u, low, high, there) = descend 97 (suc t) m next (place ∙ opened) full (omega arith) (omega arith) in
+            let on : t + (u - t) ≡ u = omega (arith, low) in
+            (u - t, omega (arith, low), omega (arith, high), rw on there)
+        | inr some ↦ (1, omega arith, omega arith, rw (add-one t) (transmits_next t commit some))
+      ]
+    where
+      full_timer : (t m : ℕ) (place : Place) (note : MacNote) (popped : List ℕ) → Stands place (found t) → is_commit (found t).control.state ≡ false
+          → Goes place note popped (Opens m) → m ≡ 288
+      full_timer t m place note popped from before_it goes = elim (opens_from place m note popped goes) [
+        | inl full ↦ full
+        | inr (n, same) ↦
+            let h : Stands (Opens n) (found t) = subst (λ (p : Place). Stands p (found t)) same from in
+            let view = (open_view n _ _ _ _ _ _ _ _ _ h.joint).0 in
+            absurd (false≢true (sym before_it ∙ view_commit (found t).control.state n view))
+      ]

@@ -20,3 +20,5 @@ pub mod Opens
 pub mod Whole
 pub mod FirstH
 pub mod Defers
+pub mod Line
+pub mod SentAt

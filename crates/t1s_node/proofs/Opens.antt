@@ -43,7 +43,7 @@ before_begun : (f : Queued) (k p r : ℕ) (v : View) (phase : Phase) (q : Queue)
     → Joint (Before f k p r) v phase q d a stage part path line → begun path ≡ true
 before_begun f k p r v _ q _ a stage part _ line (before own heads tries quarter near free feeds) = refl
 
-apart_not_commit : (n : ℕ) (v : View) → Apart v → v ≡ InCommit n → ⊥
+pub apart_not_commit : (n : ℕ) (v : View) → Apart v → v ≡ InCommit n → ⊥
 apart_not_commit n _ away e = cc
 apart_not_commit n _ (row low) e = cc
 
@@ -62,11 +62,11 @@ commit_place n _ v phase q _ _ stage part _ _ (pends out back free) e = absurd (
 commit_place n _ _ _ _ _ _ _ _ _ _ _ e = absurd (cc)
 
 -- control in Commit, by its view
-commit_view : (st : ControlStage) → is_commit st ≡ true → (n : ℕ) × (view_of st ≡ InCommit n)
+pub commit_view : (st : ControlStage) → is_commit st ≡ true → (n : ℕ) × (view_of st ≡ InCommit n)
 commit_view (CommitStage n b) e = (n, refl)
 commit_view _ e = absurd (cc)
 
-view_commit : (st : ControlStage) (n : ℕ) → view_of st ≡ InCommit n → is_commit st ≡ true
+pub view_commit : (st : ControlStage) (n : ℕ) → view_of st ≡ InCommit n → is_commit st ≡ true
 view_commit (CommitStage m b) n e = refl
 view_commit _ n e = absurd (cc)
 
@@ -117,7 +117,7 @@ module _ {D : Type 0} (answer : D → ℕ → ℕ) (after : D → D) (bounded : 
   unfolding core_drive
   own_is t = refl
 
-  state_is : (t : ℕ) → (left t).control.state ≡ (control_row (found t).control.set (found t).control.state (control_in (given t).sensed (found t))).0
+  pub state_is : (t : ℕ) → (left t).control.state ≡ (control_row (found t).control.set (found t).control.state (control_in (given t).sensed (found t))).0
   unfolding core_drive
   state_is t = refl
 

@@ -1,5 +1,5 @@
 -- The way of a frame from its first nibble to the first H of its piece, or to Pending.
-use Rattle.std.proofs.Common.{◌≡◌, ℕ, zero, suc, ◌+◌, ◌-◌, ◌*◌, ◌==◌, ◌<◌, ◌≤◌, ◌⊎◌, inl, inr, Bool, true, false, ◌&&◌, if◌then◌else◌, List, Some, None, refl, sym, ◌∙◌, ap, subst, arith}
+use Rattle.std.proofs.Common.{◌≡◌, ℕ, zero, suc, ◌+◌, ◌-◌, ◌*◌, ◌==◌, ◌<◌, ◌≤◌, ◌⊎◌, inl, inr, Bool, true, false, ◌&&◌, if◌then◌else◌, List, slice_get, Some, None, refl, sym, ◌∙◌, ap, subst, arith}
 use Rattle.std.proofs.lemmas.Bool.{false≢true}
 use Rattle.t1s_ring.specs.Queue.{Queue}
 use Rattle.t1s_ring.specs.declared.queued.Queued.{Queued}
@@ -10,6 +10,7 @@ use Rattle.t1s_mac.specs.declared.outcome.MacNote.{MacNote}
 use Rattle.t1s_mac.specs.State.{Phase, head_number}
 use Rattle.t1s_pcs_tx.specs.State.{Stage}
 use Rattle.t1s_node.specs.Core.{Core, core_drive, leaves_now, is_first_h}
+use Rattle.t1s_node.specs.Laws.{LeavesAt}
 use Rattle.t1s_node.specs.Runs.{CoreTick, DrawsAreBounded, Undisturbed, left_at, note_at, leaves_at, starts_at, is_first_nibble}
 use Rattle.t1s_node.proofs.Along.{RunAt, ticks, run_at, after_tick, after_place}
 use Rattle.t1s_node.proofs.CoreSteps.{Stands}
@@ -107,7 +108,7 @@ module _ {D : Type 0} (answer : D → ℕ → ℕ) (after : D → D) (bounded : 
   leaves_is t = refl
 
   abbrev There : Queued → ℕ → Type 0
-  There f u = (leaves_at answer after start given u ≡ Some f.number) ⊎ ((left_at answer after start given u).path ≡ Pending)
+  There f u = LeavesAt answer after start given f u ⊎ ((left_at answer after start given u).path ≡ Pending)
 
   abbrev Arrives : Queued → ℕ → ℕ → Type 0
   Arrives f t n = (u : ℕ) × (t ≤ u) × (u < t + n) × There f u
@@ -116,6 +117,11 @@ module _ {D : Type 0} (answer : D → ℕ → ℕ) (after : D → D) (bounded : 
       → (if leaves_now left.tx then Some (head_number left.mac.queue) else None) ≡ Some f.number
   arrived f left heads e = rw e (ap Some heads.number)
 
+  pub first_h_leaves : (f : Queued) (b : Bool) (t : ℕ) → Stands (InPiece f b 2 0) (left_at answer after start given t) → LeavesAt answer after start given f t
+  first_h_leaves f b t h =
+      let (heads, first) = first_h_there f b _ _ _ _ _ _ _ _ _ h.joint in
+      (leaves_is t ∙ arrived f (left_at answer after start given t) heads first, heads.first)
+
   climbs : (f : Queued) (n t : ℕ) (to : Place) → WayStep f (suc n) to → (OnWay f n to → Arrives f (suc t) n) → Stands to (left_at answer after start given t) → Arrives f t (suc n)
   climbs f n t _ (nearer {place = place} {m = m} less way) again h =
       let fewer : m ≡ n = omega (arith, less) in
@@ -123,8 +129,7 @@ module _ {D : Type 0} (answer : D → ℕ → ℕ) (after : D → D) (bounded : 
       (u, omega (arith, from), omega (arith, to), there)
   climbs f n t _ pending again h = (t, omega arith, omega arith, inr (pending_there _ _ _ _ _ _ _ _ _ h.joint))
   climbs f n t _ (first_h {b = b}) again h =
-      let (heads, first) = first_h_there f b _ _ _ _ _ _ _ _ _ h.joint in
-      (t, omega arith, omega arith, inl (leaves_is t ∙ arrived f (left_at answer after start given t) heads first))
+      (t, omega arith, omega arith, inl (first_h_leaves f b t h))
 
   climb : (f : Queued) (n t : ℕ) (run : Run t) → 144 ≤ count_of f → OnWay f n run.place → t + n ≤ end + 1 → Arrives f t n
   climb f zero t run many way within = absurd (way_left f run.place way)
@@ -137,9 +142,9 @@ module _ {D : Type 0} (answer : D → ℕ → ℕ) (after : D → D) (bounded : 
       tick.step.stands
 
   pub leaves_or_pends : Run zero → (t : ℕ) → t + 1000 ≤ end → starts_at answer after start given t ≡ true
-      → (k : ℕ) × (1 ≤ k) × (k ≤ 1000)
-      × ((leaves_at answer after start given (t + k) ≡ Some (head_number (left_at answer after start given t).mac.queue))
-      ⊎ ((left_at answer after start given (t + k)).path ≡ Pending))
+      → (f : Queued) × (slice_get (left_at answer after start given t).mac.queue.frames 0 ≡ Some f)
+      × (k : ℕ) × (1 ≤ k) × (k ≤ 1000)
+      × (LeavesAt answer after start given f (t + k) ⊎ ((left_at answer after start given (t + k)).path ≡ Pending))
   leaves_or_pends begin t within starts =
       let run = run_at answer after bounded start given end calm begin t (omega arith) in
       let tick = ticks answer after bounded start given end calm t (omega arith) run in
@@ -148,4 +153,4 @@ module _ {D : Type 0} (answer : D → ℕ → ℕ) (after : D → D) (bounded : 
       let (u, from, to, there) = climb f 1000 (suc t) (after_tick answer after bounded start given end calm t run tick) (long f heads.frame).0
       (subst (λ (p : Place). OnWay f 1000 p) same way) (omega arith) in
       let on : t + (u - t) ≡ u = omega (arith, from) in
-      (u - t, omega (arith, from), omega (arith, to), rw (on, heads.number) there)
+      (f, heads.first, u - t, omega (arith, from), omega (arith, to), rw on there)

@@ -12,7 +12,7 @@ use Rattle.plca_control.specs.declared.State.TheVariants.{Commit as CommitStage}
 use Rattle.plca_control.specs.Runs.{is_transmit}
 use Rattle.plca_data.specs.declared.data_path.State.TheVariants.{Pending}
 use Rattle.t1s_mac.specs.Laws.{jams}
-use Rattle.t1s_mac.specs.State.{Deferring, head_number}
+use Rattle.t1s_mac.specs.State.{Deferring}
 use Rattle.t1s_mac.specs.declared.outcome.MacNote.TheVariants.{Drop, Sent}
 use Rattle.t1s_node.specs.Core.{Core, core_start}
 use Rattle.t1s_node.specs.Runs.{CoreTick, Undisturbed, found_at, left_at, active_at, own_at, note_at, leaves_at, carrier_at, starts_at, popped_at, told_before}
@@ -56,16 +56,21 @@ module _ {D : Type 0} (answer : D → ℕ → ℕ) (after : D → D) where
       → (jams (told_before answer after start given (t + 1)) ≤ 1)
       × ((number : ℕ) → note_at answer after start given t ≢ Drop number)
 
-  -- Within 1000 ticks after its first nibble the first H of the frame begins, or the data path is in Pending.
+  -- The first H of a frame begins, which is the first in the MAC's queue then.
+  abbrev pub LeavesAt : Core D → (ℕ → CoreTick) → Queued → ℕ → Type 0
+  LeavesAt start given f t =
+      (leaves_at answer after start given t ≡ Some f.number) × (slice_get (left_at answer after start given t).mac.queue.frames 0 ≡ Some f)
+
+  -- Within 1000 ticks after the first nibble of a frame its first H begins, or the data path is in Pending.
   abbrev pub LeavesOrPends : Type 0
   LeavesOrPends =
       (set : ControlSet) (room : ℕ) (draws : D) (given : ℕ → CoreTick) (end : ℕ)
       → let start : Core D = core_start set (empty_queue room) draws in
       Undisturbed answer after start given end
       → (t : ℕ) → t + 1000 ≤ end → starts_at answer after start given t ≡ true
-      → (k : ℕ) × (1 ≤ k) × (k ≤ 1000)
-      × ((leaves_at answer after start given (t + k) ≡ Some (head_number (left_at answer after start given t).mac.queue))
-      ⊎ ((left_at answer after start given (t + k)).path ≡ Pending))
+      → (f : Queued) × (slice_get (left_at answer after start given t).mac.queue.frames 0 ≡ Some f)
+      × (k : ℕ) × (1 ≤ k) × (k ≤ 1000)
+      × (LeavesAt start given f (t + k) ⊎ ((left_at answer after start given (t + k)).path ≡ Pending))
 
   -- The data path stays in Pending until a tick in which the node holds its own opportunity.
   abbrev pub PendsUntilOwn : Type 0
@@ -87,6 +92,17 @@ module _ {D : Type 0} (answer : D → ℕ → ℕ) (after : D → D) where
       → is_commit (found_at answer after start given t).control.state ≡ false
       → is_commit (left_at answer after start given t).control.state ≡ true
       → (k : ℕ) × (1 ≤ k) × (k ≤ 98) × (is_transmit (left_at answer after start given (t + k)).control.state ≡ true)
+
+  -- Within 112 ticks after control has gone to Commit the first H of a frame begins.
+  abbrev pub LeavesOnceCommitted : Type 0
+  LeavesOnceCommitted =
+      (set : ControlSet) (room : ℕ) (draws : D) (given : ℕ → CoreTick) (end : ℕ)
+      → let start : Core D = core_start set (empty_queue room) draws in
+      Undisturbed answer after start given end
+      → (t : ℕ) → t + 112 ≤ end
+      → is_commit (found_at answer after start given t).control.state ≡ false
+      → is_commit (left_at answer after start given t).control.state ≡ true
+      → (f : Queued) × (k : ℕ) × (1 ≤ k) × (k ≤ 112) × LeavesAt start given f (t + k)
 
   -- Of a frame and the tick of its first pop: from there on the transmitter spells its nibbles, each for four ticks, pops
   -- each in the first of them and nothing else, and then drives T and R. The frame's note Sent comes before T begins.
@@ -117,3 +133,13 @@ module _ {D : Type 0} (answer : D → ℕ → ℕ) (after : D → D) where
       → (t number : ℕ) → t ≤ end → leaves_at answer after start given t ≡ Some number
       → (f : Queued) × (first : ℕ) × (slice_get (left_at answer after start given t).mac.queue.frames 0 ≡ Some f) × (f.number ≡ number)
       × (first + 8 ≡ t) × IsPieceOf start given end f first
+
+  -- A frame leaves the queue only in its piece: the note Sent comes after the first H, and before T begins.
+  abbrev pub SentInPiece : Type 0
+  SentInPiece =
+      (set : ControlSet) (room : ℕ) (draws : D) (given : ℕ → CoreTick) (end : ℕ)
+      → let start : Core D = core_start set (empty_queue room) draws in
+      Undisturbed answer after start given end
+      → (t number : ℕ) → t ≤ end → note_at answer after start given t ≡ Sent number
+      → (f : Queued) × (first : ℕ) × (slice_get (found_at answer after start given t).mac.queue.frames 0 ≡ Some f) × (f.number ≡ number)
+      × (first + 8 < t) × (t < first + 4 * length (nibble_list f.frame)) × IsPieceOf start given end f first

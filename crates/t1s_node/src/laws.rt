@@ -3,7 +3,7 @@
 //! contract is the law.
 ghost use Rattle.t1s_mac.specs.Picked.{picked_answer};
 ghost use Rattle.t1s_node.specs.Runs.{DrawsAreBounded};
-ghost use Rattle.t1s_node.specs.Laws.{StartsOnlyAwake, DefersBriefly, JamsOnce, LeavesOrPends, PendsUntilOwn, CommitsBriefly, SendsWholePiece};
+ghost use Rattle.t1s_node.specs.Laws.{StartsOnlyAwake, DefersBriefly, JamsOnce, LeavesOrPends, PendsUntilOwn, CommitsBriefly, LeavesOnceCommitted, SendsWholePiece, SentInPiece};
 
 use t1s_mac::Draws;
 
@@ -42,8 +42,18 @@ pub fn commits_briefly<D: Draws>()
     ensures { CommitsBriefly D.answer D.after }
 {}
 
+/// Within 112 ticks after control has gone to Commit the first H of a frame begins.
+pub fn leaves_once_committed<D: Draws>()
+    ensures { LeavesOnceCommitted D.answer D.after }
+{}
+
 /// A frame whose first H begins is popped and spelled whole, one nibble every four ticks, is noted as sent before T begins,
 /// and its closer is R.
 pub fn sends_whole_piece<D: Draws>()
     ensures { SendsWholePiece D.answer D.after }
+{}
+
+/// A frame leaves the queue only within its piece, after the first H and before T.
+pub fn sent_in_piece<D: Draws>()
+    ensures { SentInPiece D.answer D.after }
 {}

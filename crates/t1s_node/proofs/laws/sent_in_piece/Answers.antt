@@ -1,0 +1,14 @@
+use Rattle.t1s_ring.specs.Queue.{empty_queue}
+use Rattle.t1s_node.specs.Core.{core_start}
+use Rattle.t1s_node.proofs.Along.{begin_at}
+use Rattle.t1s_node.proofs.CoreSteps.{start_stands}
+use Rattle.t1s_node.proofs.SentAt.{sent_in_piece}
+use Rattle.t1s_node.proofs.laws.sent_in_piece.Goals as goal
+
+pub returns : goal.returns
+returns g c set room draws given end calm =
+    let answer = g.D.Draws.answer in
+    let after = g.D.Draws.after in
+    let start = core_start set (empty_queue room) draws in
+    let begin = begin_at answer after calm.draws start given end calm (start_stands set room draws) in
+    sent_in_piece answer after calm.draws start given end calm begin

@@ -19,8 +19,8 @@ use Rattle.t1s_node.proofs.CoreSteps.{Stands}
 use Rattle.t1s_node.proofs.Joint.{Place, Holds, IsPending, Opens, Before, InPiece, Goes, holds_on, hold_fails, hold_opens, hold_pops, pends_on, pending_opens, opens_on, open_starts, before_on, before_pops, piece_lasts, piece_pops, piece_ends, Joint, holds, collides, pends, before}
 use Rattle.t1s_node.proofs.JointSteps.{apart_of}
 use Rattle.t1s_node.proofs.MacTurns.{count_of, long}
-use Rattle.t1s_node.proofs.Opens.{apart_not_commit, commit_view, state_is, view_commit}
-use Rattle.t1s_node.proofs.View.{View, InCommit, view_of, Turns, own_begins, commit_waits, row_turns}
+use Rattle.t1s_node.proofs.Opens.{apart_not_commit, state_is}
+use Rattle.t1s_node.proofs.View.{View, InCommit, view_of, commit_view, view_commit, Turns, own_begins, commit_waits, row_turns}
 use Rattle.t1s_node.proofs.Ways.{first_h_leaves}
 
 -- the places of the way, with the ticks that are left at most

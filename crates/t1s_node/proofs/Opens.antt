@@ -1,13 +1,8 @@
 -- A frame that waits: it stays in Pending until the opportunity, and then control is in Transmit soon.
-use Rattle.std.proofs.Common.{◌≡◌, ℕ, zero, suc, ◌+◌, ◌-◌, ◌*◌, ◌==◌, ◌<◌, ◌≤◌, ◌⊎◌, inl, inr, true, false, List, [], ◌∷◌, refl, sym, ◌∙◌, ap, subst, arith, add-one}
+use Rattle.std.proofs.Common.{◌≡◌, ℕ, zero, suc, ◌+◌, ◌-◌, ◌*◌, ◌<◌, ◌≤◌, ◌⊎◌, inl, inr, true, false, List, [], ◌∷◌, refl, sym, ◌∙◌, ap, subst, arith, add-one}
 use Rattle.std.proofs.lemmas.Bool.{false≢true}
-use Rattle.std.proofs.lemmas.Bool.Decides.{nat_tests}
 use Rattle.t1s_ring.specs.Queue.{Queue}
 use Rattle.t1s_ring.specs.declared.queued.Queued.{Queued}
-use Rattle.plca_control.specs.declared.ControlSet.{ControlSet}
-use Rattle.plca_control.specs.declared.ControlIn.{ControlIn}
-use Rattle.plca_control.specs.declared.State.{State as ControlStage}
-use Rattle.plca_control.specs.declared.State.TheVariants.{Commit as CommitStage}
 use Rattle.plca_control.specs.ControlTable.{control_row, is_own}
 use Rattle.plca_control.specs.Runs.{is_transmit}
 use Rattle.plca_data.specs.declared.data_path.State.{State}
@@ -24,7 +19,7 @@ use Rattle.t1s_node.proofs.Along.{RunAt, ticks, run_at, after_tick, after_place,
 use Rattle.t1s_node.proofs.CoreSteps.{Stands}
 use Rattle.t1s_node.proofs.Joint.{Place, IsPending, Opens, Before, Goes, pends_on, pending_opens, opens_on, open_starts, Apart, away, row, Joint, idles, holds, collides, jams, delays, pends, waits, before, fed}
 use Rattle.t1s_node.proofs.JointSteps.{apart_of}
-use Rattle.t1s_node.proofs.View.{View, InCommit, own_of, view_of, view_own}
+use Rattle.t1s_node.proofs.View.{View, InCommit, own_of, view_own, commit_view, view_commit, still_commit, now_transmits}
 
 pending_place : (place : Place) (v : View) (phase : Phase) (q : Queue) (d : Deference) (a : ℕ) (stage : Stage) (part : ℕ) (path : State) (line : List ℕ)
     → Joint place v phase q d a stage part path line → path ≡ Pending → place ≡ IsPending
@@ -60,34 +55,6 @@ commit_place n _ v _ q _ _ stage part _ _ (jams out some nibble quarter free) e 
 commit_place n _ v phase q _ _ stage part _ _ (delays out least back free) e = absurd (apart_not_commit n v out e)
 commit_place n _ v phase q _ _ stage part _ _ (pends out back free) e = absurd (apart_not_commit n v out e)
 commit_place n _ _ _ _ _ _ _ _ _ _ _ e = absurd (cc)
-
--- control in Commit, by its view
-pub commit_view : (st : ControlStage) → is_commit st ≡ true → (n : ℕ) × (view_of st ≡ InCommit n)
-commit_view (CommitStage n b) e = (n, refl)
-commit_view _ e = absurd (cc)
-
-pub view_commit : (st : ControlStage) (n : ℕ) → view_of st ≡ InCommit n → is_commit st ≡ true
-view_commit (CommitStage m b) n e = refl
-view_commit _ n e = absurd (cc)
-
-count_of_commit : View → ℕ
-count_of_commit (InCommit n) = n
-count_of_commit _ = 0
-
-count_is : (m n : ℕ) → InCommit m ≡ InCommit n → m ≡ n
-unfolding count_of_commit
-count_is m n e = ap count_of_commit e
-
-commit_waits : (s : ControlSet) (st : ControlStage) (i : ControlIn) (n : ℕ) → view_of st ≡ InCommit n → 1 < n → i.begun ≡ false → is_commit (control_row s st i).0 ≡ true
-commit_waits s (CommitStage m b) i n e more none =
-    let same : m ≡ n = count_is m n e in
-    let other : (m == 1) ≡ false = grind (arith, nat_tests, same, more) in
-    rw (none, other) refl
-commit_waits s _ i n e more none = absurd (cc)
-
-commit_sends : (s : ControlSet) (st : ControlStage) (i : ControlIn) → is_commit st ≡ true → i.begun ≡ true → is_transmit (control_row s st i).0 ≡ true
-commit_sends s (CommitStage m b) i e some = rw some refl
-commit_sends s _ i e some = absurd (cc)
 
 opens_from : (place : Place) (n : ℕ) (note : MacNote) (popped : List ℕ) → Goes place note popped (Opens n) → (n ≡ 288) ⊎ ((m : ℕ) × (place ≡ Opens m))
 opens_from _ _ _ _ pending_opens = inl refl
@@ -147,7 +114,7 @@ module _ {D : Type 0} (answer : D → ℕ → ℕ) (after : D → D) (bounded : 
   -- Commit
   transmits_now : (t : ℕ) → is_commit (found t).control.state ≡ true → begun (found t).path ≡ true → is_transmit (left t).control.state ≡ true
   transmits_now t commit some =
-      rw (state_is t) (commit_sends (found t).control.set (found t).control.state (control_in (given t).sensed (found t)) commit some)
+      rw (state_is t) (now_transmits (found t).control.set (found t).control.state (control_in (given t).sensed (found t)) commit some)
 
   transmits_next : (t : ℕ) → is_commit (left t).control.state ≡ true → begun (left t).path ≡ true → is_transmit (left (suc t)).control.state ≡ true
   transmits_next t commit some = transmits_now (suc t) (ap is_commit (next_state t) ∙ commit) (ap begun (next_path t) ∙ some)
@@ -163,7 +130,7 @@ module _ {D : Type 0} (answer : D → ℕ → ℕ) (after : D → D) (bounded : 
   descends m t n _ _ _ count (open_starts {f = f} {r = r} e low) from h again =
       let (view, none) = open_view n _ _ _ _ _ _ _ _ _ from.joint in
       let commit : is_commit (left t).control.state ≡ true =
-      rw (state_is t) (commit_waits (found t).control.set (found t).control.state (control_in (given t).sensed (found t)) n view (omega (arith, e)) none) in
+      rw (state_is t) (still_commit (found t).control.set (found t).control.state (control_in (given t).sensed (found t)) n view (omega (arith, e)) none) in
       (suc t, omega arith, omega arith, transmits_next t commit (before_begun f 0 0 r _ _ _ _ _ _ _ _ _ h.joint))
 
   descend : (m t n : ℕ) (run : Run t) → run.place ≡ Opens n → n ≡ 191 + m → 1 ≤ m → t + m ≤ end → Transmits t m

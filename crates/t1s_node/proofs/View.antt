@@ -1,5 +1,5 @@
 -- What the law of the node uses of control: a view of its state, and how one step may change it.
-use Rattle.std.proofs.Common.{◌≡◌, ℕ, ◌+◌, ◌-◌, ◌*◌, ◌==◌, ◌≤◌, Bool, true, false, ◌&&◌, if◌then◌else◌, IsTrue, nat_lt, nat_le, refl, rules, arith}
+use Rattle.std.proofs.Common.{◌≡◌, ℕ, ◌+◌, ◌-◌, ◌*◌, ◌==◌, ◌<◌, ◌≤◌, Bool, true, false, ◌&&◌, if◌then◌else◌, IsTrue, nat_lt, nat_le, refl, ap, rules, arith}
 use Rattle.std.proofs.lemmas.Bool.Decides.{nat_tests}
 use Rattle.t1s_pcs_tx.specs.declared.TxCmd.{TxCmd}
 use Rattle.t1s_pcs_tx.specs.declared.TxCmd.TheVariants.{None as NoCmd, Beacon as BeaconCmd, Commit as CommitCmd}
@@ -8,7 +8,9 @@ use Rattle.plca_control.specs.declared.ControlSet.{ControlSet}
 use Rattle.plca_control.specs.declared.ControlIn.{ControlIn}
 use Rattle.plca_control.specs.declared.State.{State}
 use Rattle.plca_control.specs.declared.State.TheVariants.{Disabled, Recover, Resync, Early, Beacon, Syncing, WaitTo, Receive, Commit, Transmit, Burst, Drain}
+use Rattle.plca_control.specs.Runs.{is_transmit}
 use Rattle.plca_control.specs.ControlTable.{reach, control_row, control_start, is_own, is_active, is_closed, is_closed_good, is_beacon}
+use Rattle.t1s_node.specs.Laws.{is_commit}
 
 -- neither a beacon nor the own opportunity; a beacon, and how many of its ticks follow; the own opportunity, before its
 -- frame, within it, and after a frame of a burst
@@ -140,3 +142,31 @@ module _ (s : ControlSet) (i : ControlIn) where
       if_both (TurnsTo (InPause n)) i.begun _ _ (λ e. pause_sends e)
       (λ e. if_both (TurnsTo (InPause n)) (n == 1) _ _ (λ _. pause_ends e) (λ _. pause_waits e))
   row_turns Drain h = if_both (TurnsTo Away) i.crs _ _ (λ _. stays_away) (λ _. reach_turns (s.id + 1))
+
+-- control in Commit, by its view
+pub commit_view : (st : State) → is_commit st ≡ true → (n : ℕ) × (view_of st ≡ InCommit n)
+commit_view (Commit n b) e = (n, refl)
+commit_view _ e = absurd (cc)
+
+pub view_commit : (st : State) (n : ℕ) → view_of st ≡ InCommit n → is_commit st ≡ true
+view_commit (Commit m b) n e = refl
+view_commit _ n e = absurd (cc)
+
+count_of_commit : View → ℕ
+count_of_commit (InCommit n) = n
+count_of_commit _ = 0
+
+count_is : (m n : ℕ) → InCommit m ≡ InCommit n → m ≡ n
+unfolding count_of_commit
+count_is m n e = ap count_of_commit e
+
+pub still_commit : (s : ControlSet) (st : State) (i : ControlIn) (n : ℕ) → view_of st ≡ InCommit n → 1 < n → i.begun ≡ false → is_commit (control_row s st i).0 ≡ true
+still_commit s (Commit m b) i n e more none =
+    let same : m ≡ n = count_is m n e in
+    let other : (m == 1) ≡ false = grind (arith, nat_tests, same, more) in
+    rw (none, other) refl
+still_commit s _ i n e more none = absurd (cc)
+
+pub now_transmits : (s : ControlSet) (st : State) (i : ControlIn) → is_commit st ≡ true → i.begun ≡ true → is_transmit (control_row s st i).0 ≡ true
+now_transmits s (Commit m b) i e some = rw some refl
+now_transmits s _ i e some = absurd (cc)

@@ -5,9 +5,9 @@ use Rattle.t1s_ring.specs.Queue.{Queue}
 use Rattle.t1s_ring.specs.declared.queued.Queued.{Queued}
 use Rattle.plca_data.specs.declared.data_path.State.{State}
 use Rattle.t1s_mac.specs.declared.deference.Deference.{Deference}
-use Rattle.t1s_mac.specs.State.{Phase, head_number}
-use Rattle.t1s_pcs_tx.specs.State.{Stage}
-use Rattle.t1s_node.specs.Core.{Core, is_first_h, leaves_now}
+use Rattle.t1s_mac.specs.State.{Phase, head_number, is_sending}
+use Rattle.t1s_pcs_tx.specs.State.{Stage, is_first_h, first_h_begins}
+use Rattle.t1s_node.specs.Core.{Core}
 use Rattle.t1s_node.specs.Laws.{IsPieceOf}
 use Rattle.t1s_node.specs.Runs.{CoreTick, DrawsAreBounded, Undisturbed, left_at, leaves_at}
 use Rattle.t1s_node.proofs.Along.{RunAt, Since, ticks, run_at, after_tick, after_place}
@@ -69,9 +69,10 @@ number_is : (x n : ℕ) → Some x ≡ Some n → x ≡ n
 unfolding number_in_some
 number_is x n e = ap number_in_some e
 
-some_of : (b : Bool) (x n : ℕ) → (if b then Some x else None) ≡ Some n → (b ≡ true) × (x ≡ n)
-some_of true x n e = (refl, number_is x n e)
-some_of false x n e = absurd (cc)
+some_of : (b s : Bool) (x n : ℕ) → (if b then (if s then Some x else None) else None) ≡ Some n → (b ≡ true) × (x ≡ n)
+some_of true true x n e = (refl, number_is x n e)
+some_of true false x n e = absurd (cc)
+some_of false s x n e = absurd (cc)
 
 module _ {D : Type 0} (answer : D → ℕ → ℕ) (after : D → D) (bounded : DrawsAreBounded answer) (start : Core D) (given : ℕ → CoreTick) (end : ℕ)
     (calm : Undisturbed answer after start given end) (begin : RunAt answer after bounded start given end calm zero) where
@@ -83,7 +84,7 @@ module _ {D : Type 0} (answer : D → ℕ → ℕ) (after : D → D) (bounded : 
       let tick = ticks answer after bounded start given end calm t within run in
       let next = after_tick answer after bounded start given end calm t run tick in
       let place = after_place answer after bounded start given end calm t run tick in
-      let (now, is) = some_of (leaves_now (left_at answer after start given t).tx) (head_number (left_at answer after start given t).mac.queue) number
+      let (now, is) = some_of (first_h_begins (left_at answer after start given t).tx) (is_sending (left_at answer after start given t).mac.phase) (head_number (left_at answer after start given t).mac.queue) number
       (sym (leaves_is answer after bounded start given end calm t) ∙ leaves) in
       let h = first_h_place tick.step.to _ _ _ _ _ _ _ _ _ tick.step.stands.joint now in
       let since : Since answer after bounded start given end calm (suc t) (InPiece h.f false 2 0) =

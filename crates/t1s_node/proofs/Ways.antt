@@ -7,9 +7,9 @@ use Rattle.plca_data.specs.declared.data_path.State.{State}
 use Rattle.plca_data.specs.declared.data_path.State.TheVariants.{Pending}
 use Rattle.t1s_mac.specs.declared.deference.Deference.{Deference}
 use Rattle.t1s_mac.specs.declared.outcome.MacNote.{MacNote}
-use Rattle.t1s_mac.specs.State.{Phase, head_number}
-use Rattle.t1s_pcs_tx.specs.State.{Stage}
-use Rattle.t1s_node.specs.Core.{Core, core_drive, leaves_now, is_first_h}
+use Rattle.t1s_mac.specs.State.{Phase, is_sending, number_of}
+use Rattle.t1s_pcs_tx.specs.State.{Stage, is_first_h, first_h_begins}
+use Rattle.t1s_node.specs.Core.{Core, core_drive}
 use Rattle.t1s_node.specs.Laws.{LeavesAt}
 use Rattle.t1s_node.specs.Runs.{CoreTick, DrawsAreBounded, Undisturbed, left_at, note_at, leaves_at, starts_at, is_first_nibble}
 use Rattle.t1s_node.proofs.Along.{RunAt, ticks, run_at, after_tick, after_place}
@@ -88,8 +88,8 @@ first_way _ _ phase q _ _ _ _ _ _ (closes resting few) e = absurd (false≢true 
 
 -- the first H
 first_h_there : (f : Queued) (b : Bool) (v : View) (phase : Phase) (q : Queue) (d : Deference) (a : ℕ) (stage : Stage) (part : ℕ) (path : State) (line : List ℕ)
-    → Joint (InPiece f b 2 0) v phase q d a stage part path line → Heads q f × ((is_first_h stage && (part == 0)) ≡ true)
-first_h_there f _ v _ q _ a _ _ _ line (fed own heads tries quarter ahead least most (starting early low) feeds) = (heads, refl)
+    → Joint (InPiece f b 2 0) v phase q d a stage part path line → Heads q f × ((is_first_h stage && (part == 0)) ≡ true) × (is_sending phase ≡ true)
+first_h_there f _ v _ q _ a _ _ _ line (fed own heads tries quarter ahead least most (starting early low) feeds) = (heads, refl, refl)
 first_h_there f _ v _ q _ a _ _ _ line (fed own heads tries quarter ahead least most (sending late low) feeds) = absurd (omega (arith, late))
 first_h_there f _ _ phase q _ _ stage _ _ line (given_all resting tx feeds late past_start) = absurd (omega (arith, past_start))
 
@@ -103,7 +103,7 @@ module _ {D : Type 0} (answer : D → ℕ → ℕ) (after : D → D) (bounded : 
   Run t = RunAt answer after bounded start given end calm t
 
   pub leaves_is : (t : ℕ) → leaves_at answer after start given t
-      ≡ (if leaves_now (left_at answer after start given t).tx then Some (head_number (left_at answer after start given t).mac.queue) else None)
+      ≡ (if first_h_begins (left_at answer after start given t).tx then number_of (left_at answer after start given t).mac else None)
   unfolding core_drive
   leaves_is t = refl
 
@@ -113,14 +113,14 @@ module _ {D : Type 0} (answer : D → ℕ → ℕ) (after : D → D) (bounded : 
   abbrev Arrives : Queued → ℕ → ℕ → Type 0
   Arrives f t n = (u : ℕ) × (t ≤ u) × (u < t + n) × There f u
 
-  arrived : (f : Queued) (left : Core D) → Heads left.mac.queue f → leaves_now left.tx ≡ true
-      → (if leaves_now left.tx then Some (head_number left.mac.queue) else None) ≡ Some f.number
-  arrived f left heads e = rw e (ap Some heads.number)
+  arrived : (f : Queued) (left : Core D) → Heads left.mac.queue f → first_h_begins left.tx ≡ true → is_sending left.mac.phase ≡ true
+      → (if first_h_begins left.tx then number_of left.mac else None) ≡ Some f.number
+  arrived f left heads first sends = rw (first, sends) (ap Some heads.number)
 
   pub first_h_leaves : (f : Queued) (b : Bool) (t : ℕ) → Stands (InPiece f b 2 0) (left_at answer after start given t) → LeavesAt answer after start given f t
   first_h_leaves f b t h =
-      let (heads, first) = first_h_there f b _ _ _ _ _ _ _ _ _ h.joint in
-      (leaves_is t ∙ arrived f (left_at answer after start given t) heads first, heads.first)
+      let (heads, first, sends) = first_h_there f b _ _ _ _ _ _ _ _ _ h.joint in
+      (leaves_is t ∙ arrived f (left_at answer after start given t) heads first sends, heads.first)
 
   climbs : (f : Queued) (n t : ℕ) (to : Place) → WayStep f (suc n) to → (OnWay f n to → Arrives f (suc t) n) → Stands to (left_at answer after start given t) → Arrives f t (suc n)
   climbs f n t _ (nearer {place = place} {m = m} less way) again h =

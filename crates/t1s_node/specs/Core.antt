@@ -1,12 +1,12 @@
 -- The parts of a node that drive the line, as plain data, and the drive phase of one tick of them: the tables of
 -- control, MAC, transmitter and data path in this order, each fed with what the last tick left.
-use Rattle.std.specs.Prelude.{ℕ, ◌==◌, Bool, false, ◌&&◌, if◌then◌else◌, List, [], Option, Some, None}
+use Rattle.std.specs.Prelude.{ℕ, Bool, if◌then◌else◌, List, [], Option, None}
 use Rattle.t1s_symbols.specs.declared.Class.{Class}
 use Rattle.t1s_symbols.specs.declared.Quarter.{Quarter}
 use Rattle.t1s_ring.specs.Queue.{Queue}
 use Rattle.t1s_ring.specs.declared.queued.Queued.{Queued}
 use Rattle.t1s_pcs_tx.specs.declared.TxCmd.{TxCmd}
-use Rattle.t1s_pcs_tx.specs.State.{TxState, Stage, Quiet, Beaconing, Committing, Starting, Sending, ClosingEnd, ClosingCloser, tx_start}
+use Rattle.t1s_pcs_tx.specs.State.{TxState, tx_start, first_h_begins}
 use Rattle.t1s_pcs_tx.specs.Transmit.{TxTurn, transmit_step, report_of}
 use Rattle.plca_control.specs.declared.ControlSet.{ControlSet}
 use Rattle.plca_control.specs.declared.ControlIn.{ControlIn}
@@ -17,7 +17,7 @@ use Rattle.plca_data.specs.declared.DataIn.{DataIn}
 use Rattle.plca_data.specs.declared.data_path.State.{State}
 use Rattle.plca_data.specs.DataPathTable.{data_path_start, data_path_step, carrier, collision, ready, begun, ended, bad}
 use Rattle.t1s_mac.specs.Laws.{offered}
-use Rattle.t1s_mac.specs.State.{MacState, mac_start, head_number}
+use Rattle.t1s_mac.specs.State.{MacState, mac_start, number_of}
 use Rattle.t1s_mac.specs.Mac.{mac_step}
 use Rattle.t1s_mac.specs.declared.outcome.MacStep.{MacStep}
 
@@ -37,7 +37,7 @@ pub record Sensed : Type 0 where
   pub hit : Bool
 
 -- what a drive phase comes to: the core that it leaves, what control gives out, what the MAC tells, the quarter that
--- is driven, and the number of the frame whose first H begins in this tick
+-- is driven, and the number of the frame that the MAC gives where a first H begins in this tick
 pub record CoreDriven (D : Type 0) : Type 0 where
   pub core : Core D
   pub cmd : TxCmd
@@ -46,19 +46,6 @@ pub record CoreDriven (D : Type 0) : Type 0 where
   pub step : MacStep
   pub quarter : Option Quarter
   pub leaves : Option ℕ
-
--- the first H of a piece begins: its third symbol, in its first quarter
-abbrev pub is_first_h : Stage → Bool
-is_first_h Quiet = false
-is_first_h Beaconing = false
-is_first_h Committing = false
-is_first_h (Starting place) = place == 2
-is_first_h (Sending nibble) = false
-is_first_h (ClosingEnd good) = false
-is_first_h (ClosingCloser good) = false
-
-abbrev pub leaves_now : TxState → Bool
-leaves_now tx = is_first_h tx.stage && (tx.part == 0)
 
 module _ {D : Type 0} where
   -- the core of a node that has just started
@@ -116,5 +103,5 @@ module _ {D : Type 0} where
         own = control.1.own;
         step = mac.1;
         quarter = tx.driven;
-        leaves = if leaves_now tx.state then Some (head_number mac.0.queue) else None;
+        leaves = if first_h_begins tx.state then number_of mac.0 else None;
       }

@@ -1,5 +1,5 @@
 -- What a transmitter holds, as contracts see it.
-use Rattle.std.specs.Prelude.{ℕ, Bool, true, ◌&&◌, nat_lt, List, Option, Some, None, if◌then◌else◌, IsTrue}
+use Rattle.std.specs.Prelude.{ℕ, ◌==◌, Bool, true, false, ◌&&◌, nat_lt, List, Option, Some, None, if◌then◌else◌, IsTrue}
 use Rattle.t1s_symbols.specs.declared.Quarter.{Quarter}
 use Rattle.t1s_symbols.specs.declared.Symbol.{Symbol}
 use Rattle.t1s_symbols.specs.declared.Symbol.TheVariants.{Nibble, J, T, H, N}
@@ -65,6 +65,19 @@ report_by (Starting place) ended = Framing
 report_by (Sending nibble) ended = Framing
 report_by (ClosingEnd good) ended = Framing
 report_by (ClosingCloser good) ended = if ended then Closed good else Framing
+
+-- the first H of a piece begins: its third symbol, in its first quarter
+abbrev pub is_first_h : Stage → Bool
+is_first_h Quiet = false
+is_first_h Beaconing = false
+is_first_h Committing = false
+is_first_h (Starting place) = place == 2
+is_first_h (Sending nibble) = false
+is_first_h (ClosingEnd good) = false
+is_first_h (ClosingCloser good) = false
+
+abbrev pub first_h_begins : TxState → Bool
+first_h_begins tx = is_first_h tx.stage && (tx.part == 0)
 
 -- the ranges of the numbers of a stage
 abbrev pub stage_in_range : Stage → Bool

@@ -1,7 +1,7 @@
 //! The typed states of the transmitter. Each is consumed at the end of its symbol, and leaves the next one.
 ghost use Rattle.std.specs.Prelude.{◌≡◌, ◌<◌, IsTrue, IfSome, Bool, List};
 ghost use Rattle.t1s_symbols.specs.Ranges.{IsSymbol};
-ghost use Rattle.t1s_pcs_tx.specs.State.{Starting as Begun, stage_of, closing_stage, symbol_of, stage_in_range, report_by};
+ghost use Rattle.t1s_pcs_tx.specs.State.{Starting as Begun, stage_of, closing_stage, symbol_of, is_first_h, stage_in_range, report_by};
 ghost use Rattle.t1s_pcs_tx.specs.Transmit.{choice, choice_after, data_choice, told_choice, is_quiet};
 
 use crate::{TxCmd, TxIn, TxReport};
@@ -128,6 +128,13 @@ impl State {
         ensures { result ≡ is_quiet (stage_of self.now) }
     {
         matches!(self, State::Quiet(_))
+    }
+
+    /// The first H of a piece is driven.
+    pub fn is_first_h(&self) -> bool
+        ensures { result ≡ is_first_h (stage_of self.now) }
+    {
+        matches!(self, State::Starting(starting) if starting.place == STARTING_SYNCS)
     }
 
     /// What follows at a symbol boundary: the rows of the table for the state.

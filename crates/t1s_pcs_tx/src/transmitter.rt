@@ -1,7 +1,7 @@
 //! `PcsTx`, the machine that a node steps once a tick.
 ghost use Rattle.std.specs.Prelude.{◌≡◌, IsTrue, IfSome};
 ghost use Rattle.t1s_symbols.specs.Ranges.{IsQuarter};
-ghost use Rattle.t1s_pcs_tx.specs.State.{tx_start, IsTxState, quarter_of};
+ghost use Rattle.t1s_pcs_tx.specs.State.{tx_start, IsTxState, quarter_of, first_h_begins};
 ghost use Rattle.t1s_pcs_tx.specs.Transmit.{transmit_step, report_of};
 
 use crate::states::{Quiet, State};
@@ -50,6 +50,13 @@ impl PcsTx {
         ensures { result ≡ report_of self.now }
     {
         self.state.report(self.part == LAST_PART)
+    }
+
+    /// The last step has begun the first H of a piece, in its first quarter.
+    pub fn begins_first_h(&self) -> bool
+        ensures { result ≡ first_h_begins self.now }
+    {
+        self.state.is_first_h() && self.part == 0
     }
 
     /// The quarter that the last step drove, if it drove one.

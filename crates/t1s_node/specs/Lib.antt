@@ -1,3 +1,6 @@
+pub mod Carrier
+pub mod Leaves
+pub mod Node
 pub mod Core
-pub mod Runs
 pub mod Laws
+pub mod Runs

@@ -1,0 +1,169 @@
+//! `Node`, which a segment drives and lets hear once a tick.
+ghost use Rattle.std.specs.Prelude.{◌≡◌, ◌<◌, ◌↔◌, [], length, IsOk, IsErr, IfErr, IfSome};
+ghost use Rattle.std.specs.Borrow.{sem};
+ghost use Rattle.t1s_symbols.specs.Ranges.{IsHeard, IsQuarter};
+ghost use Rattle.t1s_pcs_rx.specs.Leaves.{event_shown};
+ghost use Rattle.t1s_pcs_rx.specs.Receive.{receive_event};
+ghost use Rattle.t1s_node.specs.Node.{IsNodeSet, node_start, node_offered, node_drive, node_sense, is_clash};
+ghost use Rattle.t1s_node.specs.Leaves.{LeavesNode};
+
+use crate::carrier::Carrier;
+use crate::{Driven, NodeHeard, NodeSet};
+use plca_control::{Control, ControlIn, Status};
+use plca_data::{DataIn, DataPath};
+use std::marker::Model;
+use t1s_mac::{Mac, PickedDraws};
+use t1s_pcs_rx::PcsRx;
+use t1s_pcs_tx::{PcsTx, TxIn, TxReport};
+use t1s_ring::{DelayLine, FrameRing, Queued};
+use t1s_symbols::Heard;
+
+/// A node. Contracts see it as a `NodeState`. Its MAC is there between any two calls: only its step takes it out.
+#[derive(Drop)]
+pub struct Node {
+    rise: u8,
+    fall: u8,
+    control: Control,
+    status: Status,
+    mac: Option<Mac<PickedDraws>>,
+    tx: PcsTx,
+    path: DataPath,
+    line: DelayLine,
+    carrier: Carrier,
+    receiver: PcsRx,
+    hit: bool,
+    drove: bool,
+}
+
+impl Model for Node {
+    ghost use Rattle.std.specs.Prelude.{IsTrue};
+    ghost use Rattle.t1s_node.specs.Node.{NodeState, mac_in, is_held};
+
+    ghost Value = { NodeState };
+
+    ghost view = { λ n. record { rise = n.rise; fall = n.fall; core = record { control = n.control; mac = mac_in n.mac; tx = n.tx; path = n.path; line = n.line }; status = n.status; carrier = n.carrier; receiver = n.receiver; hit = n.hit; drove = n.drove } };
+
+    ghost invariant = { λ n. IsTrue (is_held n.mac) };
+}
+
+impl Node {
+    /// A node over a ring of frames and a delay line, both empty, with the draws of its backoffs. It takes no memory.
+    pub fn new(set: NodeSet, ring: FrameRing, line: DelayLine, draws: PickedDraws) -> Node
+        requires set { IsNodeSet set }
+        requires no_frames { ring.frames ≡ [] }
+        requires no_nibbles { line ≡ [] }
+        ensures { result ≡ node_start set ring draws }
+    {
+        Node {
+            rise: set.rise,
+            fall: set.fall,
+            control: Control::start(set.control),
+            status: Status::start(),
+            mac: Some(Mac::start(ring, draws)),
+            tx: PcsTx::start(),
+            path: DataPath::start(),
+            line,
+            carrier: Carrier::start(),
+            receiver: PcsRx::new(),
+            hit: false,
+            drove: false,
+        }
+    }
+
+    /// Appends a frame at the back of the MAC's queue. A queue that holds as many frames as its room, the head counted,
+    /// stays as it is, and hands the frame back.
+    pub fn offer(&mut self, q: Queued) -> Result<(), Queued>
+        ensures taken { IsOk result ↔ (length self.old.core.mac.queue.frames < self.old.core.mac.queue.room) }
+        ensures full { IsErr result ↔ (length self.old.core.mac.queue.frames ≡ self.old.core.mac.queue.room) }
+        ensures node { self.new ≡ node_offered self.old q }
+        ensures err { IfErr result (λ back. (back ≡ q) × (self.new ≡ self.old)) }
+    {
+        match &mut self.mac {
+            Some(mac) => mac.offer(q),
+            None => unreachable!(),
+        }
+    }
+
+    /// The drive phase of a tick: control, the MAC, the transmitter and the data path step in this order, each fed with
+    /// what the last tick left. The transmitter pops from the delay line before the data path pushes to it.
+    #[tactic(auto, unfolding(crate::specs::Core::core_drive))]
+    pub fn drive(&mut self) -> Driven
+        ensures node { (self.new, result) ≡ node_drive self.old }
+        ensures quarter { IfSome result.quarter IsQuarter }
+    {
+        let crs = self.carrier.on;
+        let class = self.receiver.class();
+        let report = self.tx.report();
+        let (control, given) = self.control.step(ControlIn {
+            crs,
+            class,
+            ready: self.path.ready(),
+            begun: self.path.begun(),
+            tx: report,
+        });
+        self.control = control;
+        self.status = self.status.step(given.active);
+        let held = match self.mac.take() {
+            Some(mac) => mac,
+            None => unreachable!(),
+        };
+        let (mac, told) = held.step(self.path.carrier(crs), self.path.collision());
+        let number = mac.number();
+        self.mac = Some(mac);
+        let held = std::mem::replace(&mut self.tx, PcsTx::start());
+        let (tx, quarter) = held.step(
+            TxIn {
+                cmd: given.cmd,
+                ended: self.path.ended(),
+                bad: self.path.bad(),
+            },
+            &mut self.line,
+        );
+        let leaves = if tx.begins_first_h() { number } else { None };
+        self.tx = tx;
+        self.path = self.path.step(
+            DataIn {
+                active: given.active,
+                own: given.own,
+                closed: matches!(report, TxReport::Closed { good: _ }),
+                crs,
+                class,
+                hit: self.hit,
+                mac: told.out,
+            },
+            &mut self.line,
+        );
+        self.drove = quarter.is_some();
+        Driven {
+            quarter,
+            note: told.note,
+            ok: self.status.is_ok(),
+            leaves,
+        }
+    }
+
+    /// The hear phase of a tick: the carrier reading takes this tick's energy, the receiver hears, and whether the
+    /// node's drive was hit is set anew. `clash` tells that several signals were heard, or any while the node drove.
+    pub fn hear(&mut self, h: Heard) -> NodeHeard<'_>
+        requires { IsHeard h }
+        ensures* after { sem 𝓛 (LeavesNode self.entry h) }
+        ensures event { event_shown result.event ≡ receive_event self.old.receiver h self.old.drove }
+        ensures clash { result.clash ≡ is_clash self.old h }
+    {
+        let own = self.drove;
+        let clash = self.sense(h);
+        let event = self.receiver.hear(h, own);
+        NodeHeard { event, clash }
+    }
+
+    /// What is heard sets the carrier reading and whether the node's drive was hit; it answers whether signals met.
+    fn sense(&mut self, h: Heard) -> bool
+        ensures node { self.new ≡ node_sense self.old h }
+        ensures clash { result ≡ is_clash self.old h }
+    {
+        let heard = !matches!(h, Heard::Nothing);
+        self.carrier = self.carrier.step(self.drove || heard, self.rise, self.fall);
+        self.hit = self.drove && heard;
+        matches!(h, Heard::Many) || self.hit
+    }
+}

@@ -1,5 +1,5 @@
 -- The steps of a node whose frame has met a logical collision, until its opportunity begins.
-use Rattle.std.proofs.Common.{◌≡◌, ℕ, ◌+◌, ◌-◌, ◌==◌, ◌<◌, ◌≤◌, Bool, true, false, List, [], length, refl, sym, subst, arith}
+use Rattle.std.proofs.Common.{◌≡◌, ℕ, ◌+◌, ◌-◌, ◌==◌, ◌<◌, ◌≤◌, Bool, true, false, List, [], refl, sym, subst, arith}
 use Rattle.std.proofs.lemmas.Bool.Decides.{nat_tests}
 use Rattle.t1s_symbols.specs.declared.Class.{Class}
 use Rattle.t1s_ring.specs.Queue.{Queue}
@@ -12,9 +12,8 @@ use Rattle.t1s_mac.specs.declared.deference.Deference.TheVariants.{Busy}
 use Rattle.plca_data.specs.declared.MacOut.TheVariants.{Nothing}
 use Rattle.t1s_mac.specs.declared.outcome.MacNote.TheVariants.{None as NoNote}
 use Rattle.t1s_mac.specs.Mac.{Row, row}
-use Rattle.t1s_mac.specs.State.{Phase}
 use Rattle.t1s_node.proofs.HoldSteps.{told_in}
-use Rattle.t1s_node.proofs.MacTurns.{Heads, SendTurn, lasts, jams as begins_jam, gives, sends, JamTurn, jam_lasts, jam_goes, jam_ends, BacksOff, waits, over, BackoffTurn, backs_off, count_of, frame_there}
+use Rattle.t1s_node.proofs.MacTurns.{Heads, SendTurn, lasts, jams as begins_jam, gives, sends, JamTurn, jam_lasts, jam_goes, jam_ends, BacksOff, waits, BackoffTurn, backs_off, count_of, frame_there}
 use Rattle.t1s_node.proofs.Joint.{Collides, Jams, Delays, IsPending, Opens, collide_lasts, collide_gives, collide_jams, jam_lasts as jam_on, jam_gives, jam_ends as jam_over, delays_on, delay_ends, pends_on, pending_opens, Apart, Outcome, collides, jams, delays, pends, waits as waits_in, opens as opens_busy}
 use Rattle.t1s_node.proofs.Turning.{ApartTurn, still, opens, apart_own, FreeNext, frees}
 use Rattle.t1s_node.proofs.View.{View, InCommit, own_of, if_both}
@@ -26,44 +25,40 @@ module _ (own closed crs : Bool) (class : Class) (q : Queue) (v' : View) (out : 
   collide_steps f k p hit _ stage part _ heads within quarter e (lasts less) (frees free most) =
       record { to = Collides f k (p + 1); popped = []; goes = collide_lasts less; lost = refl; joint = collides out heads within (omega (arith, less)) free }
   collide_steps f k p hit _ stage part _ heads within quarter e (begins_jam three late h) (frees free most) =
-      record { to = Jams 0 0; popped = []; goes = collide_jams three late; lost = refl; joint = jams out (frame_there q f heads) (omega arith) (omega arith) free }
+      record { to = Jams f 0 0; popped = []; goes = collide_jams three late; lost = refl; joint = jams out heads (omega arith) (omega arith) free }
   collide_steps f k p hit _ stage part _ heads within quarter e (gives three more early) (frees free most) =
       record { to = Collides f (k + 1) 0; popped = []; goes = collide_gives three (early e); lost = refl; joint = collides out heads more (omega arith) free }
   collide_steps f k p hit _ stage part _ heads within quarter e (sends three all none) (frees free most) = absurd (cc)
 
-  pub jam_steps : (j p drawn : ℕ) (left : Row) (stage : Stage) (part : ℕ) (line' : List ℕ)
-      → 0 < length q.frames → j ≤ 7 → p ≤ 3 → drawn < 2 → JamTurn q j p drawn left → FreeNext [] stage part line'
-      → Outcome (Jams j p) [] v' left (deference_step Busy true true left.starts) stage part line' (collide (told_in own closed crs class left.out) line')
-  jam_steps j p drawn _ stage part _ some nibble quarter low (jam_lasts less) (frees free most) =
-      record { to = Jams j (p + 1); popped = []; goes = jam_on less; lost = refl; joint = jams out some nibble (omega (arith, less)) free }
-  jam_steps j p drawn _ stage part _ some nibble quarter low (jam_goes three less) (frees free most) =
-      record { to = Jams (j + 1) 0; popped = []; goes = jam_gives three less; lost = refl; joint = jams out some (omega (arith, less)) (omega arith) free }
-  jam_steps j p drawn _ stage part _ some nibble quarter low (jam_ends three seven) (frees free most) =
-      record { to = Delays 512; popped = []; goes = jam_over three seven; lost = refl; joint = delays out (omega arith) (waits (omega (arith, low)) some) free }
+  pub jam_steps : (f : Queued) (j p drawn : ℕ) (left : Row) (stage : Stage) (part : ℕ) (line' : List ℕ)
+      → Heads q f → j ≤ 7 → p ≤ 3 → drawn < 2 → JamTurn q j p drawn left → FreeNext [] stage part line'
+      → Outcome (Jams f j p) [] v' left (deference_step Busy true true left.starts) stage part line' (collide (told_in own closed crs class left.out) line')
+  jam_steps f j p drawn _ stage part _ heads nibble quarter low (jam_lasts less) (frees free most) =
+      record { to = Jams f j (p + 1); popped = []; goes = jam_on less; lost = refl; joint = jams out heads nibble (omega (arith, less)) free }
+  jam_steps f j p drawn _ stage part _ heads nibble quarter low (jam_goes three less) (frees free most) =
+      record { to = Jams f (j + 1) 0; popped = []; goes = jam_gives three less; lost = refl; joint = jams out heads (omega (arith, less)) (omega arith) free }
+  jam_steps f j p drawn _ stage part _ heads nibble quarter low (jam_ends three seven) (frees free most) =
+      record { to = Delays f 512; popped = []; goes = jam_over three seven; lost = refl; joint = delays out heads (omega arith) (waits (omega (arith, low)) (frame_there q f heads)) free }
 
-  pub delay_steps : (n : ℕ) (left : Row) (stage : Stage) (part : ℕ) (line' : List ℕ)
-      → 1 ≤ n → BackoffTurn n q 1 left → FreeNext [] stage part line'
-      → Outcome (Delays n) [] v' left (deference_step Busy true false left.starts) stage part line' (delay_pending n (told_in own closed crs class left.out) line')
-  delay_steps n _ stage part _ least (backs_off {phase = phase} back last) (frees free most) =
-      if_both (λ kept. Outcome (Delays n) [] v' (row phase q 1 Nothing NoNote) Busy stage part [] kept) (n == 1) _ _
+  pub delay_steps : (f : Queued) (n : ℕ) (left : Row) (stage : Stage) (part : ℕ) (line' : List ℕ)
+      → Heads q f → 1 ≤ n → BackoffTurn n q 1 left → FreeNext [] stage part line'
+      → Outcome (Delays f n) [] v' left (deference_step Busy true false left.starts) stage part line' (delay_pending n (told_in own closed crs class left.out) line')
+  delay_steps f n _ stage part _ heads least (backs_off {phase = phase} back last) (frees free most) =
+      if_both (λ kept. Outcome (Delays f n) [] v' (row phase q 1 Nothing NoNote) Busy stage part [] kept) (n == 1) _ _
       (λ e.
       let one : n ≡ 1 = grind (arith, nat_tests, e) in
       let none : n - 1 ≡ 0 = omega (arith, one) in
-      record { to = IsPending; popped = []; goes = delay_ends one; lost = refl; joint = pends out (subst (λ m. BacksOff m phase q) none back) free })
+      record { to = IsPending f; popped = []; goes = delay_ends one; lost = refl; joint = pends out heads (subst (λ m. BacksOff m phase q) none back) free })
       (λ e.
       let more : 1 < n = grind (arith, nat_tests, e, least) in
-      record { to = Delays (n - 1); popped = []; goes = delays_on more; lost = refl; joint = delays out (omega (arith, more)) back free })
+      record { to = Delays f (n - 1); popped = []; goes = delays_on more; lost = refl; joint = delays out heads (omega (arith, more)) back free })
 
-back_some : (n : ℕ) (phase : Phase) (q : Queue) → BacksOff n phase q → 0 < length q.frames
-back_some n _ q (waits left some) = some
-back_some n _ q (over some) = some
-
-pub pending_steps : (closed crs : Bool) (class : Class) (q : Queue) (v v' : View) (left : Row) (stage : Stage) (part : ℕ) (line' : List ℕ)
-    → ApartTurn true v v' → BackoffTurn 0 q 1 left → FreeNext [] stage part line'
-    → Outcome IsPending [] v' left (deference_step Busy true false left.starts) stage part line' (pending (told_in (own_of v') closed crs class left.out) line')
-pending_steps closed crs class q v v' _ stage part _ (still out) (backs_off {phase = phase} back last) (frees free most) =
-    subst (λ own. Outcome IsPending [] v' (row phase q 1 Nothing NoNote) Busy stage part [] (pending (told_in own closed crs class Nothing) [])) (sym (apart_own v' out))
-    (record { to = IsPending; popped = []; goes = pends_on; lost = refl; joint = pends out back free })
-pending_steps closed crs class q _ _ _ stage part _ (opens e) (backs_off {phase = phase} back last) (frees free most) =
-    subst (λ ph. Outcome IsPending [] (InCommit 288) (row ph q 1 Nothing NoNote) Busy stage part [] (WaitMac, [])) (sym (last refl))
-    (record { to = Opens 288; popped = []; goes = pending_opens; lost = refl; joint = waits_in opens_busy (back_some 0 phase q back) free })
+pub pending_steps : (closed crs : Bool) (class : Class) (f : Queued) (q : Queue) (v v' : View) (left : Row) (stage : Stage) (part : ℕ) (line' : List ℕ)
+    → Heads q f → ApartTurn true v v' → BackoffTurn 0 q 1 left → FreeNext [] stage part line'
+    → Outcome (IsPending f) [] v' left (deference_step Busy true false left.starts) stage part line' (pending (told_in (own_of v') closed crs class left.out) line')
+pending_steps closed crs class f q v v' _ stage part _ heads (still out) (backs_off {phase = phase} back last) (frees free most) =
+    subst (λ own. Outcome (IsPending f) [] v' (row phase q 1 Nothing NoNote) Busy stage part [] (pending (told_in own closed crs class Nothing) [])) (sym (apart_own v' out))
+    (record { to = IsPending f; popped = []; goes = pends_on; lost = refl; joint = pends out heads back free })
+pending_steps closed crs class f q _ _ _ stage part _ heads (opens e) (backs_off {phase = phase} back last) (frees free most) =
+    subst (λ ph. Outcome (IsPending f) [] (InCommit 288) (row ph q 1 Nothing NoNote) Busy stage part [] (WaitMac, [])) (sym (last refl))
+    (record { to = Opens f 288; popped = []; goes = pending_opens; lost = refl; joint = waits_in opens_busy heads free })

@@ -57,7 +57,7 @@ some_more : (frames : List Queued) (q : Queued) → 0 < length (frames ++ q ∷ 
 some_more [] q = omega arith
 some_more (x ∷ xs) q = omega arith
 
-first_stays : (frames : List Queued) (f q : Queued) → slice_get frames 0 ≡ Some f → slice_get (frames ++ q ∷ []) 0 ≡ Some f
+pub first_stays : (frames : List Queued) (f q : Queued) → slice_get frames 0 ≡ Some f → slice_get (frames ++ q ∷ []) 0 ≡ Some f
 first_stays [] f q e = absurd (cc)
 first_stays (x ∷ xs) f q e = e
 
@@ -80,10 +80,10 @@ joint_offered _ _ phase q x _ _ _ part _ _ (asleep resting) = asleep (rests_offe
 joint_offered _ v phase q x d _ stage part _ _ (idles out resting free) = idles out (rests_offered phase q x resting) free
 joint_offered _ v _ q x _ _ stage part _ line (holds {f = f} heads early quarter free al feeds) = holds (heads_offered q x f heads) early quarter free al feeds
 joint_offered _ v _ q x _ _ stage part _ _ (collides {f = f} out heads within quarter free) = collides out (heads_offered q x f heads) within quarter free
-joint_offered _ v _ q x _ _ stage part _ _ (jams out some nibble quarter free) = jams out (some_more q.frames x) nibble quarter free
-joint_offered _ v phase q x _ _ stage part _ _ (delays {n = n} out least back free) = delays out least (backs_offered n phase q x back) free
-joint_offered _ v phase q x _ _ stage part _ _ (pends out back free) = pends out (backs_offered 0 phase q x back) free
-joint_offered _ _ _ q x d _ stage part _ _ (waits opening some free) = waits opening (some_more q.frames x) free
+joint_offered _ v _ q x _ _ stage part _ _ (jams {f = f} out heads nibble quarter free) = jams out (heads_offered q x f heads) nibble quarter free
+joint_offered _ v phase q x _ _ stage part _ _ (delays {f = f} {n = n} out heads least back free) = delays out (heads_offered q x f heads) least (backs_offered n phase q x back) free
+joint_offered _ v phase q x _ _ stage part _ _ (pends {f = f} out heads back free) = pends out (heads_offered q x f heads) (backs_offered 0 phase q x back) free
+joint_offered _ _ _ q x d _ stage part _ _ (waits {f = f} opening heads free) = waits opening (heads_offered q x f heads) free
 joint_offered _ _ phase q x d _ stage part _ _ (rests_in resting free) = rests_in (rests_offered phase q x resting) free
 joint_offered _ v _ q x _ a stage part _ line (before {f = f} own heads tries quarter near free feeds) = before own (heads_offered q x f heads) tries quarter near free feeds
 joint_offered _ v _ q x _ a stage _ _ line (fed {f = f} {d = n} own heads tries quarter ahead least most tx feeds) = fed {d = n} own (heads_offered q x f heads) tries quarter ahead least most tx feeds

@@ -71,8 +71,8 @@ joint_tries _ v phase q d _ stage part _ _ (idles out resting free) = resting_tr
 joint_tries _ v _ q _ _ stage part _ line (holds heads early quarter free al feeds) = omega arith
 joint_tries _ v _ q _ _ stage part _ _ (collides out heads within quarter free) = omega arith
 joint_tries _ v _ q _ _ stage part _ _ (jammed out some nibble quarter free) = omega arith
-joint_tries _ v phase q _ _ stage part _ _ (delays {n = n} out least back free) = backing_tries n phase q back
-joint_tries _ v phase q _ _ stage part _ _ (pends out back free) = backing_tries 0 phase q back
+joint_tries _ v phase q _ _ stage part _ _ (delays {n = n} out heads least back free) = backing_tries n phase q back
+joint_tries _ v phase q _ _ stage part _ _ (pends out heads back free) = backing_tries 0 phase q back
 joint_tries _ _ _ q d _ stage part _ _ (waits opening some free) = omega arith
 joint_tries _ _ phase q d _ stage part _ _ (rests_in resting free) = resting_tries phase q resting
 joint_tries _ v _ q _ a stage part _ line (before own heads tries quarter near free feeds) = omega (arith, tries)

@@ -1,5 +1,5 @@
 -- The places of a node's drive side, and what ties control, MAC, transmitter, data path and line together in each.
-use Rattle.std.proofs.Common.{◌≡◌, ℕ, ◌+◌, ◌-◌, ◌*◌, ◌<◌, ◌≤◌, Bool, true, false, List, [], ◌∷◌, ◌++◌, length, slice_index}
+use Rattle.std.proofs.Common.{◌≡◌, ℕ, ◌+◌, ◌-◌, ◌*◌, ◌<◌, ◌≤◌, Bool, true, false, List, [], ◌∷◌, ◌++◌, slice_index}
 use Rattle.plca_data.specs.declared.data_path.State.{State}
 use Rattle.plca_data.specs.declared.data_path.State.TheVariants.{Silent, Idle, Hold, Collide, DelayPending, Pending, WaitMac, Transmit}
 use Rattle.t1s_frame.specs.Frame.{nibble_list}
@@ -25,13 +25,13 @@ pub data Place : Type 0 where
   Holds : Queued → ℕ → ℕ → Place
   -- the frame that has met a logical collision, and its nibble
   Collides : Queued → ℕ → ℕ → Place
-  -- the jam's nibble
-  Jams : ℕ → ℕ → Place
-  -- the ticks left of the wait
-  Delays : ℕ → Place
-  IsPending : Place
-  -- the opportunity has begun after a wait: the ticks left of the commit timer
-  Opens : ℕ → Place
+  -- the frame that is jammed, and the jam's nibble
+  Jams : Queued → ℕ → ℕ → Place
+  -- the frame, and the ticks left of its wait
+  Delays : Queued → ℕ → Place
+  IsPending : Queued → Place
+  -- the opportunity has begun after a wait: the frame, and the ticks left of the commit timer
+  Opens : Queued → ℕ → Place
   -- the opportunity goes on after a piece
   Pauses : Place
   -- the frame goes through the line, and has not been popped from: its nibble, and the quarters left before the first pop
@@ -62,16 +62,16 @@ pub data Goes : Place → MacNote → List ℕ → Place → Type 0 where
   hold_pops : {f : Queued} {k p : ℕ} → k ≤ 96 → p ≤ 3 → Goes (Holds f k p) NoNote (nibble_of f 0 ∷ []) (InPiece f false 0 0)
   collide_lasts : {f : Queued} {k p : ℕ} → p < 3 → Goes (Collides f k p) NoNote [] (Collides f k (p + 1))
   collide_gives : {f : Queued} {k p : ℕ} → p ≡ 3 → k < 15 → Goes (Collides f k p) NoNote [] (Collides f (k + 1) 0)
-  collide_jams : {f : Queued} {k p : ℕ} → p ≡ 3 → 15 ≤ k → Goes (Collides f k p) (Jam f.number) [] (Jams 0 0)
-  jam_lasts : {j p : ℕ} → p < 3 → Goes (Jams j p) NoNote [] (Jams j (p + 1))
-  jam_gives : {j p : ℕ} → p ≡ 3 → j < 7 → Goes (Jams j p) NoNote [] (Jams (j + 1) 0)
-  jam_ends : {j p : ℕ} → p ≡ 3 → j ≡ 7 → Goes (Jams j p) NoNote [] (Delays 512)
-  delays_on : {n : ℕ} → 1 < n → Goes (Delays n) NoNote [] (Delays (n - 1))
-  delay_ends : {n : ℕ} → n ≡ 1 → Goes (Delays n) NoNote [] IsPending
-  pends_on : Goes IsPending NoNote [] IsPending
-  pending_opens : Goes IsPending NoNote [] (Opens 288)
-  opens_on : {n n' : ℕ} → n ≡ n' + 1 → 192 ≤ n' → Goes (Opens n) NoNote [] (Opens n')
-  open_starts : {f : Queued} {n r : ℕ} → n ≡ 192 → r ≤ 3 → Goes (Opens n) NoNote [] (Before f 0 0 r)
+  collide_jams : {f : Queued} {k p : ℕ} → p ≡ 3 → 15 ≤ k → Goes (Collides f k p) (Jam f.number) [] (Jams f 0 0)
+  jam_lasts : {f : Queued} {j p : ℕ} → p < 3 → Goes (Jams f j p) NoNote [] (Jams f j (p + 1))
+  jam_gives : {f : Queued} {j p : ℕ} → p ≡ 3 → j < 7 → Goes (Jams f j p) NoNote [] (Jams f (j + 1) 0)
+  jam_ends : {f : Queued} {j p : ℕ} → p ≡ 3 → j ≡ 7 → Goes (Jams f j p) NoNote [] (Delays f 512)
+  delays_on : {f : Queued} {n : ℕ} → 1 < n → Goes (Delays f n) NoNote [] (Delays f (n - 1))
+  delay_ends : {f : Queued} {n : ℕ} → n ≡ 1 → Goes (Delays f n) NoNote [] (IsPending f)
+  pends_on : {f : Queued} → Goes (IsPending f) NoNote [] (IsPending f)
+  pending_opens : {f : Queued} → Goes (IsPending f) NoNote [] (Opens f 288)
+  opens_on : {f : Queued} {n n' : ℕ} → n ≡ n' + 1 → 192 ≤ n' → Goes (Opens f n) NoNote [] (Opens f n')
+  open_starts : {f : Queued} {n r : ℕ} → n ≡ 192 → r ≤ 3 → Goes (Opens f n) NoNote [] (Before f 0 0 r)
   pauses_on : Goes Pauses NoNote [] Pauses
   pause_ends : Goes Pauses NoNote [] Idles
   pause_lapses : {f : Queued} → Goes Pauses NoNote [] (Holds f 0 0)
@@ -130,16 +130,16 @@ pub data Joint : Place → View → Phase → Queue → Deference → ℕ → St
   collides : {f : Queued} {k p : ℕ} {c : Bool} {v : View} {q : Queue} {stage : Stage} {part r : ℕ}
       → Apart v → Heads q f → k < count_of f → p ≤ 3 → Free stage part r
       → Joint (Collides f k p) v (Gives k p c) q Busy 0 stage part Collide []
-  jams : {j p : ℕ} {v : View} {q : Queue} {stage : Stage} {part r : ℕ}
-      → Apart v → 0 < length q.frames → j ≤ 7 → p ≤ 3 → Free stage part r
-      → Joint (Jams j p) v (Jamming j p) q Busy 0 stage part Collide []
-  delays : {n : ℕ} {v : View} {phase : Phase} {q : Queue} {stage : Stage} {part r : ℕ}
-      → Apart v → 1 ≤ n → BacksOff n phase q → Free stage part r
-      → Joint (Delays n) v phase q Busy 1 stage part (DelayPending n) []
-  pends : {v : View} {phase : Phase} {q : Queue} {stage : Stage} {part r : ℕ}
-      → Apart v → BacksOff 0 phase q → Free stage part r → Joint IsPending v phase q Busy 1 stage part Pending []
-  waits : {n : ℕ} {q : Queue} {d : Deference} {stage : Stage} {part r : ℕ}
-      → Opening n d → 0 < length q.frames → Free stage part r → Joint (Opens n) (InCommit n) Deferring q d 1 stage part WaitMac []
+  jams : {f : Queued} {j p : ℕ} {v : View} {q : Queue} {stage : Stage} {part r : ℕ}
+      → Apart v → Heads q f → j ≤ 7 → p ≤ 3 → Free stage part r
+      → Joint (Jams f j p) v (Jamming j p) q Busy 0 stage part Collide []
+  delays : {f : Queued} {n : ℕ} {v : View} {phase : Phase} {q : Queue} {stage : Stage} {part r : ℕ}
+      → Apart v → Heads q f → 1 ≤ n → BacksOff n phase q → Free stage part r
+      → Joint (Delays f n) v phase q Busy 1 stage part (DelayPending n) []
+  pends : {f : Queued} {v : View} {phase : Phase} {q : Queue} {stage : Stage} {part r : ℕ}
+      → Apart v → Heads q f → BacksOff 0 phase q → Free stage part r → Joint (IsPending f) v phase q Busy 1 stage part Pending []
+  waits : {f : Queued} {n : ℕ} {q : Queue} {d : Deference} {stage : Stage} {part r : ℕ}
+      → Opening n d → Heads q f → Free stage part r → Joint (Opens f n) (InCommit n) Deferring q d 1 stage part WaitMac []
   rests_in : {n : ℕ} {phase : Phase} {q : Queue} {d : Deference} {stage : Stage} {part r : ℕ}
       → Rests phase q → Free stage part r → Joint Pauses (InPause n) phase q d 0 stage part WaitMac []
   before : {f : Queued} {k p a : ℕ} {v : View} {q : Queue} {stage : Stage} {part r : ℕ} {line : List ℕ}

@@ -21,7 +21,7 @@ use Rattle.t1s_node.proofs.CollideSteps.{collide_steps, jam_steps, delay_steps, 
 use Rattle.t1s_node.proofs.OpenSteps.{open_steps, owning_turns, before_steps}
 use Rattle.t1s_node.proofs.Piece.{piece_turns, piece_not_closed, end_turns, CloserTurn, commit_turns, silent_turns, closer_report}
 use Rattle.t1s_node.proofs.PieceSteps.{fed_steps, given_steps, end_steps, close_steps}
-use Rattle.t1s_node.proofs.MacTurns.{Fit, rest_turns, defer_turns, backoff_turns, send_turns, jam_turns, long}
+use Rattle.t1s_node.proofs.MacTurns.{Fit, frame_there, rest_turns, defer_turns, backoff_turns, send_turns, jam_turns, long}
 use Rattle.t1s_node.proofs.Joint.{Place, Asleep, Idles, Apart, away, transmit as transmits, Aligned, even_away, odd_away, even_row, odd_row, row, idles_on, idle_starts, Outcome, Joint, asleep, idles, holds, collides, jams, delays, pends, waits, rests_in, before, fed, given, ends, closes}
 use Rattle.t1s_node.proofs.Turning.{ApartTurn, still, opens, apart_turns, FreeNext, stays_free}
 use Rattle.t1s_node.proofs.View.{View, Away, InTransmit, cmd_of, own_of, Turns, stays_transmit, pauses, transmit_ends}
@@ -87,18 +87,18 @@ module _ (crs : Bool) (class : Class) (past : List Bool) (drawn : ℕ) where
   joint_steps _ v v' _ q _ _ stage part path _ (collides {f = f} {k = k} {p = p} {c = c} {r = r} out heads within quarter free) fit low turns =
       collide_steps (own_of v') (closed_by stage part) crs class q v' (stays_apart false (closed_by stage part) v v' out turns) f k p (c || true) _ _ _ _
       heads within quarter (always_hit c) (send_turns q f k p 0 (c || true) heads quarter within) (empty_free v' stage part r path free)
-  joint_steps _ v v' _ q _ _ stage part path _ (jams {j = j} {p = p} {r = r} out some nibble quarter free) fit low turns =
-      jam_steps (own_of v') (closed_by stage part) crs class q v' (stays_apart false (closed_by stage part) v v' out turns) j p drawn _ _ _ _
-      some nibble quarter (low refl) (jam_turns q j p drawn quarter nibble) (empty_free v' stage part r path free)
-  joint_steps _ v v' phase q _ _ stage part path _ (delays {n = n} {r = r} out least back free) fit low turns =
-      delay_steps (own_of v') (closed_by stage part) crs class q v' (stays_apart false (closed_by stage part) v v' out turns) n _ _ _ _
-      least (backoff_turns n phase q 1 false drawn back) (empty_free v' stage part r path free)
-  joint_steps _ v v' phase q _ _ stage part path _ (pends {r = r} out back free) fit low turns =
-      pending_steps (closed_by stage part) crs class q v v' _ _ _ _ (apart_turns true false (closed_by stage part) v v' out turns)
+  joint_steps _ v v' _ q _ _ stage part path _ (jams {f = f} {j = j} {p = p} {r = r} out heads nibble quarter free) fit low turns =
+      jam_steps (own_of v') (closed_by stage part) crs class q v' (stays_apart false (closed_by stage part) v v' out turns) f j p drawn _ _ _ _
+      heads nibble quarter (low refl) (jam_turns q j p drawn quarter nibble) (empty_free v' stage part r path free)
+  joint_steps _ v v' phase q _ _ stage part path _ (delays {f = f} {n = n} {r = r} out heads least back free) fit low turns =
+      delay_steps (own_of v') (closed_by stage part) crs class q v' (stays_apart false (closed_by stage part) v v' out turns) f n _ _ _ _
+      heads least (backoff_turns n phase q 1 false drawn back) (empty_free v' stage part r path free)
+  joint_steps _ v v' phase q _ _ stage part path _ (pends {f = f} {r = r} out heads back free) fit low turns =
+      pending_steps (closed_by stage part) crs class f q v v' _ _ _ _ heads (apart_turns true false (closed_by stage part) v v' out turns)
       (backoff_turns 0 phase q 1 false drawn back) (empty_free v' stage part r path free)
-  joint_steps place v v' phase q d a stage part path line (waits {n = n} {r = r} opening some free) fit low turns =
+  joint_steps place v v' phase q d a stage part path line (waits {f = f} {n = n} {r = r} opening heads free) fit low turns =
       subst (λ closed. Turns false false closed v v' → StepsTo closed place v' phase q d a stage part path line) (sym (free_not_closed stage part r past free))
-      (λ turns'. open_steps crs class q n v' d _ _ _ _ opening some turns' (defer_turns q 1 (may_start d false) some fit) (empty_free v' stage part r path free))
+      (λ turns'. open_steps crs class f q n v' d _ _ _ _ opening heads turns' (defer_turns q 1 (may_start d false) (frame_there q f heads) fit) (empty_free v' stage part r path free))
       turns
   joint_steps place v v' phase q d a stage part path line (rests_in {n = n} {r = r} resting free) fit low turns =
       subst (λ closed. Turns false false closed v v' → StepsTo closed place v' phase q d a stage part path line) (sym (free_not_closed stage part r past free))

@@ -1,5 +1,5 @@
 -- The rows of the MAC's table, by what may come of each.
-use Rattle.std.proofs.Common.{◌≡◌, ℕ, ◌+◌, ◌-◌, ◌*◌, ◌==◌, ◌<◌, ◌≤◌, Bool, true, false, ◌&&◌, nat_lt, nat_le, List, [], ◌∷◌, length, slice_get, slice_index, Some, refl, ◌∙◌, ap, rules, arith}
+use Rattle.std.proofs.Common.{sym, None, Option, ◌≡◌, ℕ, ◌+◌, ◌-◌, ◌*◌, ◌==◌, ◌<◌, ◌≤◌, Bool, true, false, ◌&&◌, nat_lt, nat_le, List, [], ◌∷◌, length, slice_get, slice_index, Some, refl, ◌∙◌, ap, rules, arith}
 use Rattle.std.proofs.lemmas.Bool.Decides.{nat_tests}
 use Rattle.plca_data.specs.declared.MacOut.TheVariants.{Nothing, Nibble, Ended}
 use Rattle.t1s_frame.specs.Frame.{IsFrame, nibble_list}
@@ -172,3 +172,12 @@ frame_there q f heads = go q.frames heads.first
     go : (frames : List Queued) → slice_get frames 0 ≡ Some f → 0 < length frames
     go [] e = absurd (cc)
     go (x ∷ xs) e = omega arith
+
+-- a queue has one first frame
+queued_or : Queued → Option Queued → Queued
+queued_or none (Some f) = f
+queued_or none None = none
+
+pub first_same : (q : Queue) (f g : Queued) → slice_get q.frames 0 ≡ Some f → slice_get q.frames 0 ≡ Some g → f ≡ g
+unfolding queued_or
+first_same q f g one other = ap (queued_or f) (sym one ∙ other)

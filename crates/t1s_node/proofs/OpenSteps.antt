@@ -21,8 +21,8 @@ use Rattle.t1s_node.proofs.Feeds.{Feeds, one_given, one_popped, popped_is, not_f
 use Rattle.t1s_node.proofs.Free.{Free, FreeTurn, goes_on, begins_commit, begins_piece}
 use Rattle.t1s_node.proofs.HoldSteps.{told_in}
 use Rattle.t1s_node.proofs.IdleSteps.{first_in}
-use Rattle.t1s_node.proofs.MacTurns.{Heads, DeferTurn, begins, defers_on, SendTurn, lasts, jams, gives, sends, giving, starting as starts_row, started_busy, long}
-use Rattle.t1s_node.proofs.Joint.{Opens, Before, InPiece, Opening, opens, gap, opens_on, open_starts, before_on, before_pops, Owning, commit, transmit as transmits, Outcome, waits, before, fed, starting, nibble_of}
+use Rattle.t1s_node.proofs.MacTurns.{first_same, Heads, DeferTurn, begins, defers_on, SendTurn, lasts, jams, gives, sends, giving, starting as starts_row, started_busy, long}
+use Rattle.t1s_node.proofs.Joint.{Goes, Opens, Before, InPiece, Opening, opens, gap, opens_on, open_starts, before_on, before_pops, Owning, commit, transmit as transmits, Outcome, waits, before, fed, starting, nibble_of}
 use Rattle.t1s_node.proofs.Turning.{FreeNext, frees}
 use Rattle.t1s_node.proofs.View.{View, InCommit, InTransmit, own_of, Turns, commit_sends, commit_waits, commit_ends, stays_transmit, pauses, transmit_ends, pause_sends, pause_waits, pause_ends}
 
@@ -42,37 +42,37 @@ gap_falls g e least =
     (rw more refl, grind (arith, nat_tests, e, least))
 
 -- after a wait: the interframe gap, and then the frame
-pub open_steps : (crs : Bool) (class : Class) (q : Queue) (n : ℕ) (v' : View) (d : Deference) (left : Row) (stage : Stage) (part : ℕ) (line' : List ℕ)
-    → Opening n d → 0 < length q.frames → Turns false false false (InCommit n) v' → DeferTurn q 1 (may_start d false) left → FreeNext [] stage part line'
-    → Outcome (Opens n) [] v' left (deference_step d false false left.starts) stage part line' (wait_mac (told_in (own_of v') false crs class left.out) line')
-open_steps crs class q n _ d left stage part line' opening some (commit_sends e) mac tx = absurd (cc)
-open_steps crs class q _ _ _ left stage part line' opens some (commit_ends e few) mac tx = absurd (omega (arith, few))
-open_steps crs class q n _ _ left stage part line' (gap is least most) some (commit_ends e few) mac tx = absurd (omega (arith, few, is))
-open_steps crs class q _ _ _ _ stage part line' opens some (commit_waits e next) (begins may heads) tx = absurd (cc)
-open_steps crs class q _ _ _ _ stage part _ opens some (commit_waits {m = m} e next) (defers_on may) (frees free low) =
+pub open_steps : (crs : Bool) (class : Class) (g : Queued) (q : Queue) (n : ℕ) (v' : View) (d : Deference) (left : Row) (stage : Stage) (part : ℕ) (line' : List ℕ)
+    → Opening n d → Heads q g → Turns false false false (InCommit n) v' → DeferTurn q 1 (may_start d false) left → FreeNext [] stage part line'
+    → Outcome (Opens g n) [] v' left (deference_step d false false left.starts) stage part line' (wait_mac (told_in (own_of v') false crs class left.out) line')
+open_steps crs class g q n _ d left stage part line' opening some (commit_sends e) mac tx = absurd (cc)
+open_steps crs class g q _ _ _ left stage part line' opens some (commit_ends e few) mac tx = absurd (omega (arith, few))
+open_steps crs class g q n _ _ left stage part line' (gap is least most) some (commit_ends e few) mac tx = absurd (omega (arith, few, is))
+open_steps crs class g q _ _ _ _ stage part line' opens some (commit_waits e next) (begins may heads) tx = absurd (cc)
+open_steps crs class g q _ _ _ _ stage part _ opens some (commit_waits {m = m} e next) (defers_on may) (frees free low) =
     record {
-      to = Opens m;
+      to = Opens g m;
       popped = [];
       goes = opens_on next (omega (arith, next));
       lost = refl;
       joint = waits (gap (omega (arith, next)) (omega arith) (omega arith)) some free;
     }
-open_steps crs class q n _ _ _ stage part _ (gap {g = g} is least most) some (commit_waits {m = m} e next) (begins {f = f} may heads) (frees {r = r} free low) =
-    let one : g ≡ 1 = gap_starts g may in
-    subst (λ d'. Outcome (Opens n) [] (InCommit m) (starts_row q f 1) d' stage part [] (wait_mac (told_in true false crs class (starts_row q f 1).out) []))
-    (sym (started_busy (Gap g) false false))
+open_steps crs class g q n _ _ _ stage part _ (gap {g = ticks} is least most) some (commit_waits {m = m} e next) (begins {f = f} may heads) (frees {r = r} free low) =
+    let one : ticks ≡ 1 = gap_starts ticks may in
+    subst (λ d'. Outcome (Opens g n) [] (InCommit m) (starts_row q f 1) d' stage part [] (wait_mac (told_in true false crs class (starts_row q f 1).out) []))
+    (sym (started_busy (Gap ticks) false false))
     (record {
       to = Before f 0 0 r;
       popped = [];
-      goes = open_starts (omega (arith, is, one)) low;
+      goes = subst (λ (h : Queued). Goes (Opens h n) NoNote [] (Before f 0 0 r)) (sym (first_same q g f some.first heads.first)) (open_starts (omega (arith, is, one)) low);
       lost = refl;
       joint = before commit heads (omega arith) (omega arith) (omega (arith, low)) free (first_in q f heads);
     })
-open_steps crs class q n _ _ _ stage part _ (gap {g = g} is least most) some (commit_waits {m = m} e next) (defers_on may) (frees free low) =
-    let (falls, more) = gap_falls g may least in
-    subst (λ d'. Outcome (Opens n) [] (InCommit m) (row Deferring q 1 Nothing NoNote) d' stage part [] (WaitMac, [])) (sym falls)
+open_steps crs class g q n _ _ _ stage part _ (gap {g = ticks} is least most) some (commit_waits {m = m} e next) (defers_on may) (frees free low) =
+    let (falls, more) = gap_falls ticks may least in
+    subst (λ d'. Outcome (Opens g n) [] (InCommit m) (row Deferring q 1 Nothing NoNote) d' stage part [] (WaitMac, [])) (sym falls)
     (record {
-      to = Opens m;
+      to = Opens g m;
       popped = [];
       goes = opens_on next (omega (arith, next, is, more));
       lost = refl;

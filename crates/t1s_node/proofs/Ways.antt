@@ -7,10 +7,10 @@ use Rattle.plca_data.specs.declared.data_path.State.{State}
 use Rattle.plca_data.specs.declared.data_path.State.TheVariants.{Pending}
 use Rattle.t1s_mac.specs.declared.deference.Deference.{Deference}
 use Rattle.t1s_mac.specs.declared.outcome.MacNote.{MacNote}
-use Rattle.t1s_mac.specs.State.{Phase, is_sending, number_of}
+use Rattle.t1s_mac.specs.State.{Phase, is_sending, number_of, head_number}
 use Rattle.t1s_pcs_tx.specs.State.{Stage, is_first_h, first_h_begins}
 use Rattle.t1s_node.specs.Core.{Core, core_drive}
-use Rattle.t1s_node.specs.Laws.{LeavesAt}
+use Rattle.t1s_node.specs.Laws.{LeavesAt, PendsAt}
 use Rattle.t1s_node.specs.Runs.{CoreTick, DrawsAreBounded, Undisturbed, left_at, note_at, leaves_at, starts_at, is_first_nibble}
 use Rattle.t1s_node.proofs.Along.{RunAt, ticks, run_at, after_tick, after_place}
 use Rattle.t1s_node.proofs.CoreSteps.{Stands}
@@ -23,15 +23,15 @@ use Rattle.t1s_node.proofs.View.{View}
 pub data OnWay (f : Queued) (n : ℕ) : Place → Type 0 where
   in_hold : {k p : ℕ} → 1000 ≤ n + 4 * k + p → k ≤ 96 → p ≤ 3 → OnWay f n (Holds f k p)
   in_collision : {k p : ℕ} → 544 + 4 * (16 - k) + (4 - p) ≤ n → OnWay f n (Collides f k p)
-  in_jam : {j p : ℕ} → 544 ≤ n + 4 * j + p → j ≤ 7 → p ≤ 3 → OnWay f n (Jams j p)
-  in_delay : {m : ℕ} → 1 ≤ m → m ≤ n → OnWay f n (Delays m)
+  in_jam : {j p : ℕ} → 544 ≤ n + 4 * j + p → j ≤ 7 → p ≤ 3 → OnWay f n (Jams f j p)
+  in_delay : {m : ℕ} → 1 ≤ m → m ≤ n → OnWay f n (Delays f m)
   in_line : {k p r : ℕ} → r + 12 ≤ n → OnWay f n (Before f k p r)
   in_start : {b : Bool} {i s : ℕ} → 8 ≤ n + 4 * i + s → 4 * i + s < 8 → OnWay f n (InPiece f b i s)
 
 -- a step of the way: it is nearer to its end, or there
 pub data WayStep (f : Queued) (n : ℕ) : Place → Type 0 where
   nearer : {place : Place} {m : ℕ} → n ≡ m + 1 → OnWay f m place → WayStep f n place
-  pending : WayStep f n IsPending
+  pending : WayStep f n (IsPending f)
   first_h : {b : Bool} → WayStep f n (InPiece f b 2 0)
 
 way_step : (f : Queued) (n : ℕ) (place to : Place) (note : MacNote) (popped : List ℕ) → 144 ≤ count_of f → OnWay f n place → Goes place note popped to → WayStep f n to
@@ -72,11 +72,11 @@ first_way _ v phase q d _ stage part _ _ (idles out resting free) e = absurd (fa
 first_way _ v _ q _ _ stage part _ line (holds {f = f} heads early quarter free al feeds) e = (f, heads, in_hold (omega arith) early quarter)
 first_way _ v _ q _ _ stage part _ _ (collides {f = f} {k = k} {p = p} {c = c} out heads within quarter free) e =
     let (none, new) = first_is_zero k p c e in (f, heads, in_collision (omega arith))
-first_way _ v _ q _ _ stage part _ _ (jams out some nibble quarter free) e = absurd (cc)
-first_way _ v _ q _ _ stage part _ _ (delays out least (in_backoff low some) free) e = absurd (cc)
-first_way _ v _ q _ _ stage part _ _ (delays out least (over some) free) e = absurd (cc)
-first_way _ v _ q _ _ stage part _ _ (pends out (in_backoff low some) free) e = absurd (cc)
-first_way _ v _ q _ _ stage part _ _ (pends out (over some) free) e = absurd (cc)
+first_way _ v _ q _ _ stage part _ _ (jams out heads nibble quarter free) e = absurd (cc)
+first_way _ v _ q _ _ stage part _ _ (delays out heads least (in_backoff low some) free) e = absurd (cc)
+first_way _ v _ q _ _ stage part _ _ (delays out heads least (over some) free) e = absurd (cc)
+first_way _ v _ q _ _ stage part _ _ (pends out heads (in_backoff low some) free) e = absurd (cc)
+first_way _ v _ q _ _ stage part _ _ (pends out heads (over some) free) e = absurd (cc)
 first_way _ _ _ q d _ stage part _ _ (waits opening some free) e = absurd (cc)
 first_way _ _ phase q d _ stage part _ _ (rests_in resting free) e = absurd (false≢true (sym (rests_not_first phase q resting) ∙ e))
 first_way _ v _ q _ a stage part _ line (before {f = f} own heads tries quarter near free feeds) e = (f, heads, in_line (omega (arith, near)))
@@ -93,9 +93,9 @@ first_h_there f _ v _ q _ a _ _ _ line (fed own heads tries quarter ahead least 
 first_h_there f _ v _ q _ a _ _ _ line (fed own heads tries quarter ahead least most (sending late low) feeds) = absurd (omega (arith, late))
 first_h_there f _ _ phase q _ _ stage _ _ line (given_all resting tx feeds late past_start) = absurd (omega (arith, past_start))
 
-pending_there : (v : View) (phase : Phase) (q : Queue) (d : Deference) (a : ℕ) (stage : Stage) (part : ℕ) (path : State) (line : List ℕ)
-    → Joint IsPending v phase q d a stage part path line → path ≡ Pending
-pending_there v phase q _ _ stage part _ _ (pends out back free) = refl
+pending_there : (f : Queued) (v : View) (phase : Phase) (q : Queue) (d : Deference) (a : ℕ) (stage : Stage) (part : ℕ) (path : State) (line : List ℕ)
+    → Joint (IsPending f) v phase q d a stage part path line → (path ≡ Pending) × (slice_get q.frames 0 ≡ Some f)
+pending_there f v phase q _ _ stage part _ _ (pends out heads back free) = (refl, heads.first)
 
 module _ {D : Type 0} (answer : D → ℕ → ℕ) (after : D → D) (bounded : DrawsAreBounded answer) (start : Core D) (given : ℕ → CoreTick) (end : ℕ)
     (calm : Undisturbed answer after start given end) where
@@ -108,7 +108,7 @@ module _ {D : Type 0} (answer : D → ℕ → ℕ) (after : D → D) (bounded : 
   leaves_is t = refl
 
   abbrev There : Queued → ℕ → Type 0
-  There f u = LeavesAt answer after start given f u ⊎ ((left_at answer after start given u).path ≡ Pending)
+  There f u = LeavesAt answer after start given f u ⊎ PendsAt answer after start given f u
 
   abbrev Arrives : Queued → ℕ → ℕ → Type 0
   Arrives f t n = (u : ℕ) × (t ≤ u) × (u < t + n) × There f u
@@ -127,7 +127,7 @@ module _ {D : Type 0} (answer : D → ℕ → ℕ) (after : D → D) (bounded : 
       let fewer : m ≡ n = omega (arith, less) in
       let (u, from, to, there) = again (subst (λ x. OnWay f x place) fewer way) in
       (u, omega (arith, from), omega (arith, to), there)
-  climbs f n t _ pending again h = (t, omega arith, omega arith, inr (pending_there _ _ _ _ _ _ _ _ _ h.joint))
+  climbs f n t _ pending again h = (t, omega arith, omega arith, inr (pending_there f _ _ _ _ _ _ _ _ _ h.joint))
   climbs f n t _ (first_h {b = b}) again h =
       (t, omega arith, omega arith, inl (first_h_leaves f b t h))
 
@@ -144,7 +144,7 @@ module _ {D : Type 0} (answer : D → ℕ → ℕ) (after : D → D) (bounded : 
   pub leaves_or_pends : Run zero → (t : ℕ) → t + 1000 ≤ end → starts_at answer after start given t ≡ true
       → (f : Queued) × (slice_get (left_at answer after start given t).mac.queue.frames 0 ≡ Some f)
       × (k : ℕ) × (1 ≤ k) × (k ≤ 1000)
-      × (LeavesAt answer after start given f (t + k) ⊎ ((left_at answer after start given (t + k)).path ≡ Pending))
+      × There f (t + k)
   leaves_or_pends begin t within starts =
       let run = run_at answer after bounded start given end calm begin t (omega arith) in
       let tick = ticks answer after bounded start given end calm t (omega arith) run in

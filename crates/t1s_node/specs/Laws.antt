@@ -61,6 +61,11 @@ module _ {D : Type 0} (answer : D → ℕ → ℕ) (after : D → D) where
   LeavesAt start given f t =
       (leaves_at answer after start given t ≡ Some f.number) × (slice_get (left_at answer after start given t).mac.queue.frames 0 ≡ Some f)
 
+  -- The data path is in Pending for a frame, which is the first in the MAC's queue.
+  abbrev pub PendsAt : Core D → (ℕ → CoreTick) → Queued → ℕ → Type 0
+  PendsAt start given f t =
+      ((left_at answer after start given t).path ≡ Pending) × (slice_get (left_at answer after start given t).mac.queue.frames 0 ≡ Some f)
+
   -- Within 1000 ticks after the first nibble of a frame its first H begins, or the data path is in Pending.
   abbrev pub LeavesOrPends : Type 0
   LeavesOrPends =
@@ -70,17 +75,24 @@ module _ {D : Type 0} (answer : D → ℕ → ℕ) (after : D → D) where
       → (t : ℕ) → t + 1000 ≤ end → starts_at answer after start given t ≡ true
       → (f : Queued) × (slice_get (left_at answer after start given t).mac.queue.frames 0 ≡ Some f)
       × (k : ℕ) × (1 ≤ k) × (k ≤ 1000)
-      × (LeavesAt start given f (t + k) ⊎ ((left_at answer after start given (t + k)).path ≡ Pending))
+      × (LeavesAt start given f (t + k) ⊎ PendsAt start given f (t + k))
 
-  -- The data path stays in Pending until a tick in which the node holds its own opportunity.
+  -- Control goes to Commit, with the frame the first in the MAC's queue.
+  pub record CommitsFor (start : Core D) (given : ℕ → CoreTick) (f : Queued) (t : ℕ) : Type 0 where
+    pub from : is_commit (found_at answer after start given t).control.state ≡ false
+    pub commits : is_commit (left_at answer after start given t).control.state ≡ true
+    pub first : slice_get (left_at answer after start given t).mac.queue.frames 0 ≡ Some f
+
+  -- The data path stays in Pending for a frame until a tick in which the node holds its own opportunity; in this tick control
+  -- goes to Commit, and the frame is still the first.
   abbrev pub PendsUntilOwn : Type 0
   PendsUntilOwn =
       (set : ControlSet) (room : ℕ) (draws : D) (given : ℕ → CoreTick) (end : ℕ)
       → let start : Core D = core_start set (empty_queue room) draws in
       Undisturbed answer after start given end
-      → (t : ℕ) → t < end → (left_at answer after start given t).path ≡ Pending
-      → own_at answer after start given (t + 1) ≡ false
-      → (left_at answer after start given (t + 1)).path ≡ Pending
+      → (f : Queued) (t : ℕ) → t < end → PendsAt start given f t
+      → (own_at answer after start given (t + 1) ≡ false → PendsAt start given f (t + 1))
+      × (own_at answer after start given (t + 1) ≡ true → CommitsFor start given f (t + 1))
 
   -- Within 98 ticks after control has gone to Commit it is in Transmit.
   abbrev pub CommitsBriefly : Type 0
@@ -93,7 +105,7 @@ module _ {D : Type 0} (answer : D → ℕ → ℕ) (after : D → D) where
       → is_commit (left_at answer after start given t).control.state ≡ true
       → (k : ℕ) × (1 ≤ k) × (k ≤ 98) × (is_transmit (left_at answer after start given (t + k)).control.state ≡ true)
 
-  -- Within 112 ticks after control has gone to Commit the first H of a frame begins.
+  -- Where control goes to Commit there is a frame, and within 112 ticks its first H begins.
   abbrev pub LeavesOnceCommitted : Type 0
   LeavesOnceCommitted =
       (set : ControlSet) (room : ℕ) (draws : D) (given : ℕ → CoreTick) (end : ℕ)
@@ -102,7 +114,7 @@ module _ {D : Type 0} (answer : D → ℕ → ℕ) (after : D → D) where
       → (t : ℕ) → t + 112 ≤ end
       → is_commit (found_at answer after start given t).control.state ≡ false
       → is_commit (left_at answer after start given t).control.state ≡ true
-      → (f : Queued) × (k : ℕ) × (1 ≤ k) × (k ≤ 112) × LeavesAt start given f (t + k)
+      → (f : Queued) × CommitsFor start given f t × (k : ℕ) × (1 ≤ k) × (k ≤ 112) × LeavesAt start given f (t + k)
 
   -- Of a frame and the tick of its first pop: from there on the transmitter spells its nibbles, each for four ticks, pops
   -- each in the first of them and nothing else, and then drives T and R. The frame's note Sent comes before T begins.

@@ -7,9 +7,9 @@ use Rattle.t1s_node.proofs.Opens.{pends_until_own}
 use Rattle.t1s_node.proofs.laws.pends_until_own.Goals as goal
 
 pub returns : goal.returns
-returns g c set room draws given end calm t within pending own =
+returns g c set room draws given end calm f t within pending =
     let answer = g.D.Draws.answer in
     let after = g.D.Draws.after in
     let start = core_start set (empty_queue room) draws in
     let begin = begin_at answer after calm.draws start given end calm (start_stands set room draws) in
-    rw (add-one t) (pends_until_own answer after calm.draws start given end calm begin t within pending (rw (add-one t) at own))
+    rw (add-one t) (pends_until_own answer after calm.draws start given end calm begin f t within pending)

@@ -22,3 +22,4 @@ pub mod FirstH
 pub mod Defers
 pub mod Line
 pub mod SentAt
+pub mod NodeAlong

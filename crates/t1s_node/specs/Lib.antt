@@ -4,3 +4,4 @@ pub mod Node
 pub mod Core
 pub mod Laws
 pub mod Runs
+pub mod NodeRuns

@@ -4,6 +4,7 @@
 ghost use Rattle.t1s_mac.specs.Picked.{picked_answer};
 ghost use Rattle.t1s_node.specs.Runs.{DrawsAreBounded};
 ghost use Rattle.t1s_node.specs.Laws.{StartsOnlyAwake, DefersBriefly, JamsOnce, LeavesOrPends, PendsUntilOwn, CommitsBriefly, LeavesOnceCommitted, SendsWholePiece, SentInPiece};
+ghost use Rattle.t1s_node.specs.NodeRuns.{RunsAsCore};
 
 use t1s_mac::Draws;
 
@@ -56,4 +57,10 @@ pub fn sends_whole_piece<D: Draws>()
 /// A frame leaves the queue only within its piece, after the first H and before T.
 pub fn sent_in_piece<D: Draws>()
     ensures { SentInPiece D.answer D.after }
+{}
+
+/// The core of a node runs as a core does that finds in each tick what the node keeps, so each law of a core is one of a
+/// node.
+pub fn runs_as_core()
+    ensures { RunsAsCore }
 {}

@@ -6,7 +6,6 @@ use Rattle.t1s_base.specs.Octets.{Grows}
 use Rattle.t1s_cli.specs.declared.status.Status.{Status}
 use Rattle.t1s_cli.specs.declared.status.Status.TheVariants.{Done, Refused, WriteFault, Memory}
 use Rattle.t1s_cli.specs.Answers.{Ends, status_after, text_after}
-use Rattle.t1s_cli.specs.Report.{report}
 use Rattle.t1s_cli.specs.Text.{refused_line}
 use Rattle.t1s_script.specs.declared.script.Script.{Script}
 use Rattle.t1s_script.specs.declared.refusals.ScriptRefusal.{ScriptRefusal}
@@ -29,9 +28,9 @@ ends_finished written faults finished whole text a b c r no_fault no_want grows 
 }
 
 -- what the ending says of the reading before it
-module _ {K : Type 0} (written : K → Option (List ℕ)) (faults : K → ℕ) (finished : K → Bool) (before after : K) (r : Status) where
+module _ {K : Type 0} (written : K → Option (List ℕ)) (faults : K → ℕ) (finished : K → Bool) (text : Script → List ℕ) (before after : K) (r : Status) where
   abbrev EndsAfter : Result Script ScriptRefusal → Type 0
-  EndsAfter reading = Ends written faults finished (status_after reading) (text_after reading) before after r
+  EndsAfter reading = Ends written faults finished (status_after reading) (text_after text reading) before after r
 
   pub ends_done : (reading : Result Script ScriptRefusal) → EndsAfter reading → r ≡ Done → IsOk reading
   ends_done (Ok s) h e = refl
@@ -41,7 +40,7 @@ module _ {K : Type 0} (written : K → Option (List ℕ)) (faults : K → ℕ) (
   ends_refused (Ok s) h e = absurd (elim h.answer [ inl a ↦ cc | inr a ↦ elim a [ inl b ↦ cc | inr b ↦ cc ] ])
   ends_refused (Err refusal) h e = refl
 
-  pub ends_report : (reading : Result Script ScriptRefusal) (s : Script) → EndsAfter reading → reading ≡ Ok s → r ≡ Done → Grows (written before) (written after) (report s)
+  pub ends_report : (reading : Result Script ScriptRefusal) (s : Script) → EndsAfter reading → reading ≡ Ok s → r ≡ Done → Grows (written before) (written after) (text s)
   ends_report reading s h is e = (rw is at h).whole_text e
 
   pub ends_line : (reading : Result Script ScriptRefusal) (refusal : ScriptRefusal) → EndsAfter reading → reading ≡ Err refusal → r ≡ Refused → Grows (written before) (written after) (refused_line refusal)

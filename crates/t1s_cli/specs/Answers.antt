@@ -4,15 +4,22 @@ use Rattle.t1s_base.specs.Causes.{Rose}
 use Rattle.t1s_base.specs.Octets.{Grows, GrowsByFront}
 use Rattle.t1s_script.specs.declared.script.Script.{Script}
 use Rattle.t1s_script.specs.declared.refusals.ScriptRefusal.{ScriptRefusal}
+use Rattle.t1s_cli.specs.declared.commands.ScriptTask.{ScriptTask}
+use Rattle.t1s_cli.specs.declared.commands.ScriptTask.TheVariants.{Run, Check}
 use Rattle.t1s_cli.specs.declared.status.Status.{Status}
 use Rattle.t1s_cli.specs.declared.status.Status.TheVariants.{Done, Refused, Usage, ReadFault, WriteFault, Memory}
 use Rattle.t1s_cli.specs.Report.{report}
-use Rattle.t1s_cli.specs.Text.{refused_line}
+use Rattle.t1s_cli.specs.Text.{check_line, refused_line}
 
--- the text that is written where reading gave this: the report of the script, or the line of the refusal
-abbrev pub text_after : Result Script ScriptRefusal → List ℕ
-text_after (Ok s) = report s
-text_after (Err refusal) = refused_line refusal
+-- the text that is written where reading gave this: that of the script, or the line of the refusal
+abbrev pub text_after : (Script → List ℕ) → Result Script ScriptRefusal → List ℕ
+text_after text (Ok s) = text s
+text_after text (Err refusal) = refused_line refusal
+
+-- the text that a task writes for a script
+abbrev pub task_text : ScriptTask → Script → List ℕ
+task_text Run s = report s
+task_text Check s = check_line s
 
 -- the answer where that text was written
 abbrev pub status_after : Result Script ScriptRefusal → Status

@@ -12,6 +12,14 @@ AreRun words = map string_bytes words ≡ codes "run" ∷ []
 abbrev pub AreDecode : List (String Global) → Type 0
 AreDecode words = map string_bytes words ≡ codes "decode" ∷ []
 
+-- the one word `check`
+abbrev pub AreCheck : List (String Global) → Type 0
+AreCheck words = map string_bytes words ≡ codes "check" ∷ []
+
+-- the words ask for something to be done with a script
+abbrev pub AreOnScript : List (String Global) → Type 0
+AreOnScript words = AreRun words ⊎ AreCheck words
+
 -- the words are a row of the table of commands
 abbrev pub AreCommand : List (String Global) → Type 0
-AreCommand words = AreRun words ⊎ AreDecode words
+AreCommand words = AreOnScript words ⊎ AreDecode words

@@ -1,10 +1,10 @@
 // The lines that are written.
 ghost use Rattle.std.specs.Prelude.{◌≡◌, ◌+◌, ◌≤◌, ◌++◌, length, decimal};
 ghost use Rattle.t1s_segment.specs.Told.{told};
-ghost use Rattle.t1s_cli.specs.Text.{told_line, settled_line, totals_line, reason_name, refused_line};
+ghost use Rattle.t1s_cli.specs.Text.{told_line, settled_line, totals_line, reason_name, refused_line, fit_line, unfit_line, check_line};
 
 use t1s_base::{Line, put_number, put_text};
-use t1s_script::{ScriptReason, ScriptRefusal};
+use t1s_script::{Script, ScriptReason, ScriptRefusal, Unfit, bound, fit, span};
 use t1s_segment::{Event, NodeTotals};
 
 /// Appends a text that fits.
@@ -123,4 +123,37 @@ pub(crate) fn refused_line(refusal: &ScriptRefusal) -> Line
     text(&mut out, reason_name(refusal.reason));
     text(&mut out, b"\n");
     out
+}
+
+/// The line of a script that is fit.
+fn fit_line(script: &Script) -> Line
+    ensures { result ≡ fit_line script.now }
+{
+    let mut out = Line::new();
+    count(&mut out, b"fit ", span(script));
+    count(&mut out, b" ", bound(script));
+    text(&mut out, b"\n");
+    out
+}
+
+/// The line of a premise that isn't met.
+fn unfit_line(unfit: &Unfit) -> Line
+    ensures { result ≡ unfit_line unfit.now }
+{
+    let mut out = Line::new();
+    count(&mut out, b"unfit ", u64::from(unfit.premise));
+    count(&mut out, b" ", unfit.left);
+    count(&mut out, b" ", unfit.right);
+    text(&mut out, b"\n");
+    out
+}
+
+/// The line that tells whether a script is fit.
+pub(crate) fn check_line(script: &Script) -> Line
+    ensures { result ≡ check_line script.now }
+{
+    match fit(script) {
+        Ok(()) => fit_line(script),
+        Err(unfit) => unfit_line(&unfit),
+    }
 }

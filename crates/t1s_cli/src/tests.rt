@@ -2,6 +2,7 @@ ghost use Rattle.std.specs.Prelude.{Some};
 
 use crate::{Status, play, workbench};
 use std::alloc::{AllocError, Global};
+use std::process::Abort;
 use std::test::Fail;
 use t1s_base::{Failed, MemSink, MemSource, QuietSource, Source};
 use t1s_script::read_script;
@@ -115,6 +116,106 @@ fn each_answer_has_its_text(rt: HostRuntime) -> Result<(), Fail> {
             b"8256 status 0 ok\n".as_slice(),
         ),
         (run, SCRIPT, none, &[22], Status::WriteFault, REPORT),
+    ];
+    for (words, input, read_fails, write_fails, status, text) in table {
+        let source = MemSource::new(
+            Vec::from_slice(rt.alloc(), input)?,
+            Vec::from_slice(rt.alloc(), read_fails)?,
+        );
+        let (answer, written) = call(rt.alloc(), words, source, write_fails)?;
+        assert_eq!(rt; answer, status);
+        assert_eq!(rt; written.as_slice(), text);
+    }
+    Ok(())
+}
+
+/// Sees that `check` writes this line for this script, and answers Done.
+fn check_line_of(rt: &impl Abort, alloc: Global, rows: &[(&str, &str)]) -> Result<(), AllocError> {
+    for row in rows {
+        let (input, text) = *row;
+        let octets = QuietSource::new(Vec::from_slice(alloc, input.as_bytes())?);
+        let (answer, written) = call(alloc, &["check"], octets, &[])?;
+        assert_eq!(rt; answer, Status::Done);
+        assert_eq!(rt; written.as_slice(), text.as_bytes(), "{input}");
+    }
+    Ok(())
+}
+
+#[test]
+fn check_tells_whether_a_script_is_fit(rt: HostRuntime) -> Result<(), Fail> {
+    check_line_of(
+        &rt,
+        rt.alloc(),
+        &[
+            (
+                "t1s 1\ncount 2\nrise 5\nnode 0 0 0\nnode 1 1 13\nend 10\n",
+                "fit 13 64335\n",
+            ),
+            (
+                "t1s 1\ncount 3\nnode 0 0 0\nnode 1 1 2\nnode 2 2 5\nend 10\n",
+                "fit 5 76840\n",
+            ),
+            (
+                "t1s 1\ncount 2\nnode 0 0 9\nnode 1 1 9\nend 10\n",
+                "fit 0 64200\n",
+            ),
+        ],
+    )?;
+    check_line_of(
+        &rt,
+        rt.alloc(),
+        &[
+            (
+                "t1s 1\ncount 2\nrise 4\nnode 0 0 0\nnode 1 1 14\nend 10\n",
+                "unfit 7 32 32\n",
+            ),
+            (
+                "t1s 1\ncount 2\nnode 0 0 9\nnode 1 0 9\nend 10\n",
+                "unfit 1 2 1\n",
+            ),
+            (
+                "t1s 1\ncount 2\nnode 0 1 9\nnode 1 1 9\nend 10\n",
+                "unfit 1 0 1\n",
+            ),
+            (
+                "t1s 1\ncount 2\nnode 0 0 9\nnode 1 2 9\nend 10\n",
+                "unfit 3 2 2\n",
+            ),
+            (
+                "t1s 1\ncount 2\nnode 0 0 9\nnode 1 1 9\nnode 2 1 9\nend 10\n",
+                "unfit 2 2 1\n",
+            ),
+            (
+                "t1s 1\ncount 2\nburst 16\nnode 0 0 9\nnode 1 1 9\nend 10\n",
+                "unfit 6 16 15\n",
+            ),
+        ],
+    )?;
+    Ok(())
+}
+
+#[test]
+fn check_answers_as_run_does(rt: HostRuntime) -> Result<(), Fail> {
+    let check: &[&str] = &["check"];
+    let none: &[u64] = &[];
+    let nothing: &[u8] = b"";
+    let fit: &[u8] = b"fit 5 76840\n";
+    let no_end: &[u8] = b"refused 6 NoEnd\n";
+    let table = [
+        (check, SCRIPT, none, none, Status::Done, fit),
+        (
+            &["check", "check"],
+            SCRIPT,
+            none,
+            none,
+            Status::Usage,
+            nothing,
+        ),
+        (check, NO_END, none, none, Status::Refused, no_end),
+        (check, NO_END, none, &[2], Status::WriteFault, no_end),
+        (check, SCRIPT, &[2], none, Status::ReadFault, nothing),
+        (check, SCRIPT, none, &[1], Status::WriteFault, nothing),
+        (check, SCRIPT, none, &[2], Status::WriteFault, fit),
     ];
     for (words, input, read_fails, write_fails, status, text) in table {
         let source = MemSource::new(

@@ -10,18 +10,18 @@ ghost use Rattle.t1s_script.specs.declared.refusals.ScriptRefusal.{ScriptRefusal
 ghost use Rattle.t1s_capture.specs.declared.items.Refusal.{Refusal};
 ghost use Rattle.t1s_capture.specs.Captures.{IsCapture, IsCapturePrefix};
 ghost use Rattle.t1s_capture.specs.Offences.{IsFirstOffence};
-ghost use Rattle.t1s_cli.specs.Answers.{Ends, status_after, text_after};
+ghost use Rattle.t1s_cli.specs.Answers.{Ends, status_after, task_text, text_after};
 ghost use Rattle.t1s_cli.specs.Beacons.{HasBeacons};
 ghost use Rattle.t1s_cli.specs.Decoded.{IsItemText, IsCaptureText, IsOffenceText, IsDecodedText};
 ghost use Rattle.t1s_cli.specs.Decoding.{IsReadInPieces};
 ghost use Rattle.t1s_cli.specs.Report.{report};
-ghost use Rattle.t1s_cli.specs.Text.{refused_line};
-ghost use Rattle.t1s_cli.specs.Words.{AreRun, AreDecode, AreCommand};
+ghost use Rattle.t1s_cli.specs.Text.{check_line, refused_line};
+ghost use Rattle.t1s_cli.specs.Words.{AreRun, AreCheck, AreOnScript, AreDecode, AreCommand};
 
-use crate::commands::{Command, command_of};
+use crate::commands::{Command, ScriptTask, command_of};
 use crate::decoding::decode;
 use crate::ending::{finish, write_last};
-use crate::lines::refused_line;
+use crate::lines::{check_line, refused_line};
 use crate::playing::play;
 use crate::reading::{ReadStop, read_whole};
 use crate::status::Status;
@@ -51,12 +51,23 @@ fn run_script<K: Sink>(alloc: Global, script: &Script, sink: &mut K) -> Status
     }
 }
 
-/// Reads the octets of a script and writes the report of its run, or why it is refused.
-fn run_octets<K: Sink>(alloc: Global, bytes: &[u8], sink: &mut K) -> Status
-    ensures { Ends K.written K.faults K.finished (status_after (script_of bytes.now)) (text_after (script_of bytes.now)) sink.old sink.new result }
+/// Does the task with a script, and writes its text.
+fn serve_script<K: Sink>(alloc: Global, task: ScriptTask, script: &Script, sink: &mut K) -> Status
+    requires { IsScript script.now }
+    ensures { Ends K.written K.faults K.finished Status.Done (task_text task script.now) sink.old sink.new result }
+{
+    match task {
+        ScriptTask::Run => run_script(alloc, script, sink),
+        ScriptTask::Check => write_last(&check_line(script), sink, Status::Done),
+    }
+}
+
+/// Reads the octets of a script and does the task with it, or writes why it is refused.
+fn serve_octets<K: Sink>(alloc: Global, task: ScriptTask, bytes: &[u8], sink: &mut K) -> Status
+    ensures { Ends K.written K.faults K.finished (status_after (script_of bytes.now)) (text_after (task_text task) (script_of bytes.now)) sink.old sink.new result }
 {
     match read_script(alloc, bytes) {
-        Ok(script) => run_script(alloc, &script, sink),
+        Ok(script) => serve_script(alloc, task, &script, sink),
         Err(ScriptFault::Refused(refusal)) => refuse(&refusal, sink),
         Err(ScriptFault::Memory(_)) => Status::Memory,
     }
@@ -67,6 +78,9 @@ fn run_octets<K: Sink>(alloc: Global, bytes: &[u8], sink: &mut K) -> Status
 ///
 /// With the one word `run` it reads a script to its end, in pieces of at most 4096 octets and up to the
 /// octet 1,048,577, and writes the report of the script's run, each line by one `write` call.
+///
+/// With the one word `check` it reads a script in the same way, and writes whether it is fit by one `write`
+/// call: the span and the bound, or the first premise that isn't met and its two values.
 ///
 /// With the one word `decode` it reads a capture in such pieces, up to the octet that is refused, and writes
 /// the line of each item and the line of the end or of the refusal, each by one `write` call. It takes no
@@ -83,20 +97,20 @@ pub fn workbench<S: Source, K: Sink>(
     ensures source_later { S.faults source.old ≤ S.faults source.new }
     ensures read_fault { result ≡ Status.ReadFault → Rose (S.faults source.old) (S.faults source.new) }
     ensures no_read_fault { result ≢ Status.ReadFault → S.faults source.new ≡ S.faults source.old }
-    ensures reads { (octets : List ℕ) → AreRun words.now → S.left source.old ≡ Some octets →
+    ensures reads { (octets : List ℕ) → AreOnScript words.now → S.left source.old ≡ Some octets →
         (result ≡ Status.Done) ⊎ ((result ≡ Status.Refused) ⊎ (result ≡ Status.WriteFault)) → S.left source.new ≡ Some (drop 1048577 octets) }
-    ensures read_fault_writes_nothing { AreRun words.now → result ≡ Status.ReadFault → sink.new ≡ sink.old }
+    ensures read_fault_writes_nothing { AreOnScript words.now → result ≡ Status.ReadFault → sink.new ≡ sink.old }
     ensures sink_later { K.faults sink.old ≤ K.faults sink.new }
     ensures write_fault { result ≡ Status.WriteFault → Rose (K.faults sink.old) (K.faults sink.new) }
     ensures no_write_fault { result ≢ Status.WriteFault → K.faults sink.new ≡ K.faults sink.old }
     ensures write_fault_front { (octets : List ℕ) → AreRun words.now → S.left source.old ≡ Some octets → result ≡ Status.WriteFault →
-        GrowsByFront (K.written sink.old) (K.written sink.new) (text_after (script_of octets)) }
+        GrowsByFront (K.written sink.old) (K.written sink.new) (text_after report (script_of octets)) }
     ensures memory_writes_nothing { result ≡ Status.Memory → sink.new ≡ sink.old }
-    ensures refused { (octets : List ℕ) → AreRun words.now → S.left source.old ≡ Some octets → result ≡ Status.Refused → IsErr (script_of octets) }
-    ensures refused_line { (octets : List ℕ) (refusal : ScriptRefusal) → AreRun words.now → S.left source.old ≡ Some octets → script_of octets ≡ Err refusal →
+    ensures refused { (octets : List ℕ) → AreOnScript words.now → S.left source.old ≡ Some octets → result ≡ Status.Refused → IsErr (script_of octets) }
+    ensures refused_line { (octets : List ℕ) (refusal : ScriptRefusal) → AreOnScript words.now → S.left source.old ≡ Some octets → script_of octets ≡ Err refusal →
         result ≡ Status.Refused → Grows (K.written sink.old) (K.written sink.new) (refused_line refusal) }
     ensures refused_finishes { result ≡ Status.Refused → K.finished sink.new ≡ true }
-    ensures done { (octets : List ℕ) → AreRun words.now → S.left source.old ≡ Some octets → result ≡ Status.Done → IsOk (script_of octets) }
+    ensures done { (octets : List ℕ) → AreOnScript words.now → S.left source.old ≡ Some octets → result ≡ Status.Done → IsOk (script_of octets) }
     ensures done_report { (octets : List ℕ) (s : Script) → AreRun words.now → S.left source.old ≡ Some octets → script_of octets ≡ Ok s →
         result ≡ Status.Done → Grows (K.written sink.old) (K.written sink.new) (report s) }
     ensures done_reads_all { (octets : List ℕ) → S.left source.old ≡ Some octets → result ≡ Status.Done → S.left source.new ≡ Some [] }
@@ -104,11 +118,18 @@ pub fn workbench<S: Source, K: Sink>(
     ensures script_is_played { (octets : List ℕ) (s : Script) → AreRun words.now → S.left source.old ≡ Some octets → script_of octets ≡ Ok s →
         ¬ (Rose (S.faults source.old) (S.faults source.new)) → ¬ (Rose (K.faults sink.old) (K.faults sink.new)) →
         (result ≡ Status.Done) ⊎ (result ≡ Status.Memory) }
-    ensures other_input_is_refused { (octets : List ℕ) (refusal : ScriptRefusal) → AreRun words.now → S.left source.old ≡ Some octets → script_of octets ≡ Err refusal →
+    ensures other_input_is_refused { (octets : List ℕ) (refusal : ScriptRefusal) → AreOnScript words.now → S.left source.old ≡ Some octets → script_of octets ≡ Err refusal →
         ¬ (Rose (S.faults source.old) (S.faults source.new)) → ¬ (Rose (K.faults sink.old) (K.faults sink.new)) →
         (result ≡ Status.Refused) ⊎ (result ≡ Status.Memory) }
     ensures beacons { (octets : List ℕ) (s : Script) → AreRun words.now → S.left source.old ≡ Some octets → has_thin_form octets ≡ true →
         script_of octets ≡ Ok s → HasBeacons s }
+    ensures checked { (octets : List ℕ) (s : Script) → AreCheck words.now → S.left source.old ≡ Some octets → script_of octets ≡ Ok s →
+        result ≡ Status.Done → Grows (K.written sink.old) (K.written sink.new) (check_line s) }
+    ensures check_write_fault_front { (octets : List ℕ) → AreCheck words.now → S.left source.old ≡ Some octets → result ≡ Status.WriteFault →
+        GrowsByFront (K.written sink.old) (K.written sink.new) (text_after check_line (script_of octets)) }
+    ensures script_is_checked { (octets : List ℕ) (s : Script) → AreCheck words.now → S.left source.old ≡ Some octets → script_of octets ≡ Ok s →
+        ¬ (Rose (S.faults source.old) (S.faults source.new)) → ¬ (Rose (K.faults sink.old) (K.faults sink.new)) →
+        (result ≡ Status.Done) ⊎ (result ≡ Status.Memory) }
     ensures decoded { (octets : List ℕ) → AreDecode words.now → S.left source.old ≡ Some octets → result ≡ Status.Done →
         (text : List ℕ) × IsCaptureText octets text × Grows (K.written sink.old) (K.written sink.new) text }
     ensures decode_refused { (octets : List ℕ) → AreDecode words.now → S.left source.old ≡ Some octets → result ≡ Status.Refused →
@@ -127,8 +148,8 @@ pub fn workbench<S: Source, K: Sink>(
         ¬ (Rose (S.faults source.old) (S.faults source.new)) → ¬ (Rose (K.faults sink.old) (K.faults sink.new)) → result ≡ Status.Refused }
 {
     match command_of(words) {
-        Some(Command::Run) => match read_whole(alloc, source) {
-            Ok(bytes) => run_octets(alloc, bytes.as_slice(), sink),
+        Some(Command::OnScript(task)) => match read_whole(alloc, source) {
+            Ok(bytes) => serve_octets(alloc, task, bytes.as_slice(), sink),
             Err(ReadStop::Failed) => Status::ReadFault,
             Err(ReadStop::Memory) => Status::Memory,
         },

@@ -13,7 +13,12 @@ returns-in-len1-clause-run c =
     let same : string_bytes c.word-item.result ≡ codes "run" = search rules in
     (λ _. one_word c.args.words.now c.word-item.result (codes "run") c.in-len1.len_at_least c.in-len1.len_below c.word-item.is same, λ _. refl)
 
-pub returns-in-len1-2-clause-decode : goal.returns-in-len1-2-clause-decode
-returns-in-len1-2-clause-decode c =
-    let same : string_bytes c.word-item-then-words-lt2.result ≡ codes "decode" = search rules in
-    (λ _. one_word c.args.words.now c.word-item-then-words-lt2.result (codes "decode") c.in-len1.len_at_least c.in-len1.len_below c.word-item-then-words-lt2.is same, λ _. refl)
+pub returns-in-len1-2-clause-check : goal.returns-in-len1-2-clause-check
+returns-in-len1-2-clause-check c =
+    let same : string_bytes c.word-item-then-words-lt2.result ≡ codes "check" = search rules in
+    (λ _. one_word c.args.words.now c.word-item-then-words-lt2.result (codes "check") c.in-len1.len_at_least c.in-len1.len_below c.word-item-then-words-lt2.is same, λ _. refl)
+
+pub returns-in-len1-3-clause-decode : goal.returns-in-len1-3-clause-decode
+returns-in-len1-3-clause-decode c =
+    let same : string_bytes c.word-item-then-words-lt2-2.result ≡ codes "decode" = search rules in
+    (λ _. one_word c.args.words.now c.word-item-then-words-lt2-2.result (codes "decode") c.in-len1.len_at_least c.in-len1.len_below c.word-item-then-words-lt2-2.is same, λ _. refl)

@@ -1,6 +1,6 @@
 -- A node as plain data, and its two phases of a tick: the core drives, and what is heard sets what the core finds in the
 -- next tick.
-use Rattle.std.specs.Prelude.{◌≡◌, ℕ, ◌≤◌, Bool, true, false, ◌&&◌, ◌||◌, List, [], Option, Some, None}
+use Rattle.std.specs.Prelude.{ℕ, ◌≤◌, Bool, true, false, ◌&&◌, ◌||◌, [], Option, Some, None}
 use Rattle.t1s_symbols.specs.declared.Heard.{Heard}
 use Rattle.t1s_symbols.specs.declared.Heard.TheVariants.{Nothing, One, Many}
 use Rattle.t1s_symbols.specs.declared.Quarter.{Quarter}

@@ -13,3 +13,6 @@ mod told;
 
 pub use node::Node;
 pub use told::{Driven, NodeHeard, NodeSet};
+
+#[cfg(test)]
+mod tests;

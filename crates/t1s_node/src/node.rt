@@ -163,7 +163,8 @@ impl Node {
     {
         let heard = !matches!(h, Heard::Nothing);
         self.carrier = self.carrier.step(self.drove || heard, self.rise, self.fall);
-        self.hit = self.drove && heard;
-        matches!(h, Heard::Many) || self.hit
+        let hit = self.drove && heard;
+        self.hit = hit;
+        matches!(h, Heard::Many) || hit
     }
 }

@@ -3,62 +3,30 @@ use Rattle.std.proofs.Common.{◌≡◌, ◌≢◌, ℕ, Bool, true, false, Opti
 use Rattle.std.specs.Prelude.{◌==◌, if◌then◌else◌}
 use Rattle.std.proofs.lemmas.Bool.{eqb-true, eqb-false}
 use Rattle.t1s_symbols.specs.declared.Symbol.{Symbol}
-use Rattle.t1s_symbols.specs.declared.Symbol.TheVariants.{Nibble, J, K, T, R, H, N, S}
 use Rattle.t1s_symbols.specs.Groups.{group, symbol}
-use Rattle.t1s_symbols.proofs.Pairs.{group-symbol}
+use Rattle.t1s_symbols.specs.Ranges.{IsSymbol}
+use Rattle.t1s_symbols.proofs.Pairs.{group-symbol, symbol-group, symbol-in_range}
 use Rattle.t1s_capture.specs.declared.stage.Mark.{Mark}
-use Rattle.t1s_capture.specs.declared.stage.Mark.TheVariants.{Gap, End, Torn, Beacon, Other, Unknown}
+use Rattle.t1s_capture.specs.declared.stage.Mark.TheVariants.{Gap, End, Torn, Known, Unknown}
 use Rattle.t1s_capture.specs.Offences.{IsUnknown}
-use Rattle.t1s_capture.specs.Turns.{mark, symbol_mark}
+use Rattle.t1s_capture.specs.Advance.{mark, symbol_mark}
 
--- the group of a symbol that this decoder refuses
-pub record IsOther (octet : ℕ) : Type 0 where
-  pub known : symbol octet ≡ None → ⊥
-  pub no_beacon : octet ≢ 8
-  pub no_gap : octet ≢ 0x20
-  pub no_end : octet ≢ 0x21
+pub record IsKnown (octet : ℕ) (s : Symbol) : Type 0 where
+  pub reads : symbol octet ≡ Some s
+  pub group : octet ≡ group s
+  pub in_range : IsSymbol s
 
 -- what a mark says of its octet
 abbrev pub IsMarked : ℕ → Mark → Type 0
 IsMarked octet Gap = octet ≡ 0x20
 IsMarked octet End = octet ≡ 0x21
 IsMarked octet Torn = octet ≡ 0x22
-IsMarked octet Beacon = octet ≡ 8
-IsMarked octet Other = IsOther octet
+IsMarked octet (Known s) = IsKnown octet s
 IsMarked octet Unknown = IsUnknown octet
-
-pub symbol-eight : symbol 8 ≡ Some N
-unfolding symbol
-symbol-eight = refl
-
-not_eight : (octet : ℕ) (s : Option Symbol) → symbol octet ≡ s → s ≢ Some N → octet ≢ 8
-not_eight octet s e other is = other ((sym e ∙ ap symbol is) ∙ symbol-eight)
-
-pub unknown_not_eight : (octet : ℕ) → IsUnknown octet → octet ≢ 8
-unknown_not_eight octet h is = let e = h.no_group in not_eight octet None h.no_group (λ bad. cc) is
-
-pub group-beacon : group N ≡ 8
-unfolding group
-group-beacon = refl
-
-other : (octet : ℕ) (s : Symbol) → symbol octet ≡ Some s → s ≢ N → octet ≢ 0x20 → octet ≢ 0x21 → IsOther octet
-other octet s e differs gap end = record {
-  known = λ bad. let k = sym e ∙ bad in cc;
-  no_beacon = not_eight octet (Some s) e (λ same. differs cc);
-  no_gap = gap;
-  no_end = end;
-}
 
 symbol_marked : (octet : ℕ) (s : Option Symbol) → symbol octet ≡ s → octet ≢ 0x20 → octet ≢ 0x21 → octet ≢ 0x22 → IsMarked octet (symbol_mark s)
 symbol_marked octet None e a b c = record { no_group = e; no_gap = a; no_end = b; no_torn = c }
-symbol_marked octet (Some (Nibble n)) e a b c = other octet (Nibble n) e (λ k. cc) a b
-symbol_marked octet (Some J) e a b c = other octet J e (λ k. cc) a b
-symbol_marked octet (Some K) e a b c = other octet K e (λ k. cc) a b
-symbol_marked octet (Some T) e a b c = other octet T e (λ k. cc) a b
-symbol_marked octet (Some R) e a b c = other octet R e (λ k. cc) a b
-symbol_marked octet (Some H) e a b c = other octet H e (λ k. cc) a b
-symbol_marked octet (Some N) e a b c = sym (group-symbol N octet e) ∙ group-beacon
-symbol_marked octet (Some S) e a b c = other octet S e (λ k. cc) a b
+symbol_marked octet (Some s) e a b c = record { reads = e; group = sym (group-symbol s octet e); in_range = symbol-in_range s octet e }
 
 marked_by : (octet : ℕ) (p q r : Bool) → (octet == 0x20) ≡ p → (octet == 0x21) ≡ q → (octet == 0x22) ≡ r →
     IsMarked octet (if p then Gap else (if q then End else (if r then Torn else symbol_mark (symbol octet))))
@@ -71,3 +39,29 @@ marked_by octet false false false a b c =
 -- the mark of an octet is right
 pub marked : (octet : ℕ) → IsMarked octet (mark octet)
 marked octet = marked_by octet (octet == 0x20) (octet == 0x21) (octet == 0x22) refl refl refl
+
+pub no_symbol_gap : symbol 0x20 ≡ None
+unfolding symbol
+no_symbol_gap = refl
+
+pub no_symbol_end : symbol 0x21 ≡ None
+unfolding symbol
+no_symbol_end = refl
+
+no_symbol_torn : symbol 0x22 ≡ None
+unfolding symbol
+no_symbol_torn = refl
+
+group_mark_by : (octet : ℕ) (s : Symbol) (p q r : Bool) → symbol octet ≡ Some s → (octet == 0x20) ≡ p → (octet == 0x21) ≡ q → (octet == 0x22) ≡ r →
+    (if p then Gap else (if q then End else (if r then Torn else symbol_mark (symbol octet)))) ≡ Known s
+group_mark_by octet s true q r e a b c = let k = (sym e ∙ ap symbol (eqb-true octet 0x20 a)) ∙ no_symbol_gap in cc
+group_mark_by octet s false true r e a b c = let k = (sym e ∙ ap symbol (eqb-true octet 0x21 b)) ∙ no_symbol_end in cc
+group_mark_by octet s false false true e a b c = let k = (sym e ∙ ap symbol (eqb-true octet 0x22 c)) ∙ no_symbol_torn in cc
+group_mark_by octet s false false false e a b c = ap symbol_mark e
+
+-- an octet that is a symbol's group has that mark
+pub known_mark : (octet : ℕ) (s : Symbol) → symbol octet ≡ Some s → mark octet ≡ Known s
+known_mark octet s e = group_mark_by octet s (octet == 0x20) (octet == 0x21) (octet == 0x22) e refl refl refl
+
+pub group_mark : (s : Symbol) → IsSymbol s → mark (group s) ≡ Known s
+group_mark s h = known_mark (group s) s (symbol-group s h)

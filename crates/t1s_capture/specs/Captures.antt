@@ -1,47 +1,62 @@
 -- What a capture is: the items that a node heard, and the octets that they are written as.
-use Rattle.std.specs.Prelude.{◌≡◌, ◌≢◌, ℕ, ◌*◌, ◌/◌, ◌%◌, ◌^◌, ◌<◌, ◌≤◌, Bool, true, false, List, [], ◌∷◌, ◌++◌, length, map, sum_by, count_by, All}
+use Rattle.std.specs.Prelude.{◌≡◌, ◌≢◌, ℕ, ◌*◌, ◌+◌, ◌/◌, ◌%◌, ◌^◌, ◌<◌, ◌≤◌, ◌⊎◌, Bool, true, false, List, [], ◌∷◌, ◌++◌, length, map, sum_by, count_by, All}
 use Rattle.std.specs.List.{flat_map}
-use Rattle.t1s_symbols.specs.declared.Symbol.{Symbol}
-use Rattle.t1s_symbols.specs.declared.Symbol.TheVariants.{N}
 use Rattle.t1s_symbols.specs.Groups.{group}
+use Rattle.t1s_grammar.specs.Burst.{Piece, IsBurst}
+use Rattle.t1s_grammar.specs.Prefixes.{Beginning, beginning_symbols, IsBeginning, beacon, between, opened, within, ended}
 
--- one item of a capture
+-- One item of a capture. The symbols of an item begin a burst, and are given by what that beginning is made up of.
 pub data CaptureItem : Type 0 where
   -- so many ticks of silence
   Gap : (ticks : ℕ) → CaptureItem
-  -- a burst that is a beacon
-  Beacon : CaptureItem
+  -- the symbols of a burst
+  Burst : (symbols : Beginning) → CaptureItem
+  -- the symbols with which a burst begins, and the ticks behind them that belong to no symbol
+  Torn : (symbols : Beginning) → (blur : ℕ) → CaptureItem
 
--- the symbols of a beacon
-abbrev pub beacon_symbols : List Symbol
-beacon_symbols = N ∷ N ∷ N ∷ N ∷ N ∷ []
+-- the beginning of a burst that has no symbol yet
+abbrev pub no_symbols : Beginning
+no_symbols = between [] 0
+
+-- one octet a symbol: the symbol's group
+abbrev pub symbol_octets : Beginning → List ℕ
+symbol_octets b = map group (beginning_symbols b)
+
+-- how many symbols these are
+abbrev pub symbol_count : Beginning → ℕ
+symbol_count b = length (beginning_symbols b)
 
 -- a count of ticks as four octets, the high one first
 abbrev pub count_octets : ℕ → List ℕ
 count_octets n = n / 16777216 ∷ n / 65536 % 256 ∷ n / 256 % 256 ∷ n % 256 ∷ []
 
--- the octets of an item: a gap is 20 and its count, a burst is one octet a symbol, the symbol's group
+-- the octets of an item: a gap is 20 and its count, a burst its symbols, and a torn burst its symbols, 22 and
+-- the count of its blur
 unfoldable pub item_octets : CaptureItem → List ℕ
 item_octets (Gap n) = 0x20 ∷ count_octets n
-item_octets Beacon = map group beacon_symbols
+item_octets (Burst b) = symbol_octets b
+item_octets (Torn b blur) = symbol_octets b ++ 0x22 ∷ count_octets blur
 
 -- how long an item lasts: a symbol lasts four ticks
 abbrev pub item_ticks : CaptureItem → ℕ
 item_ticks (Gap n) = n
-item_ticks Beacon = 4 * length beacon_symbols
+item_ticks (Burst b) = 4 * symbol_count b
+item_ticks (Torn b blur) = 4 * symbol_count b + blur
 
--- the count of a gap is at least 1, and fits its four octets
+-- a burst that is torn without a symbol, or behind symbols that are a burst by themselves, has a blur of at least 1
+abbrev pub NeedsBlur : Beginning → Type 0
+NeedsBlur b = (beginning_symbols b ≡ []) ⊎ IsBurst (beginning_symbols b)
+
+-- the counts of an item fit their four octets, and its symbols are a burst or begin one
 abbrev pub IsItem : CaptureItem → Type 0
 IsItem (Gap n) = (1 ≤ n) × (n < 2 ^ 32)
-IsItem Beacon = Unit {0}
+IsItem (Burst b) = IsBeginning b × IsBurst (beginning_symbols b)
+IsItem (Torn b blur) = IsBeginning b × (blur < 2 ^ 32) × (NeedsBlur b → 1 ≤ blur)
 
 abbrev pub is_gap : CaptureItem → Bool
 is_gap (Gap n) = true
-is_gap Beacon = false
-
-abbrev pub is_beacon : CaptureItem → Bool
-is_beacon (Gap n) = false
-is_beacon Beacon = true
+is_gap (Burst b) = false
+is_gap (Torn b blur) = false
 
 -- of two items that stand side by side exactly one is a gap
 abbrev pub AlternatesFrom : CaptureItem → List CaptureItem → Type 0
@@ -61,10 +76,6 @@ pub record IsItemList (items : List CaptureItem) : Type 0 where
 -- the ticks of all items together
 abbrev pub ticks_of : List CaptureItem → ℕ
 ticks_of items = sum_by item_ticks items
-
--- how many items are beacons
-abbrev pub beacons_of : List CaptureItem → ℕ
-beacons_of items = count_by is_beacon items
 
 -- what a capture begins with: T1SC in ASCII, the version, and the number of its node
 abbrev pub magic : List ℕ

@@ -1,7 +1,12 @@
 pub mod Captures
+pub mod Pieces
+pub mod Fronts
 pub mod Offences
+pub mod Handed
 pub mod State
 pub mod Stands
 pub mod Answers
-pub mod Turns
 pub mod Advance
+pub mod Ranges
+pub mod Marks
+pub mod Kept

@@ -1,44 +1,63 @@
 -- Where octets stop being a capture, and why.
-use Rattle.std.specs.Prelude.{◌≡◌, ◌≢◌, ℕ, ◌+◌, ◌^◌, ◌<◌, ◌≤◌, ◌⊎◌, List, [], ◌∷◌, ◌++◌, length, take, slice_index, None, map}
-use Rattle.t1s_symbols.specs.Groups.{group, symbol}
+use Rattle.std.specs.Prelude.{◌≡◌, ◌≢◌, ℕ, ◌+◌, ◌^◌, ◌<◌, ◌≤◌, ◌⊎◌, List, [], ◌∷◌, ◌++◌, length, take, slice_index, None, Some}
+use Rattle.t1s_symbols.specs.Groups.{symbol}
+use Rattle.t1s_symbols.specs.declared.Symbol.{Symbol}
+use Rattle.t1s_grammar.specs.Prefixes.{Beginning, beginning_symbols, IsTooLong}
 use Rattle.t1s_capture.specs.declared.items.Why.{Why}
 use Rattle.t1s_capture.specs.declared.items.Why.TheVariants.{Magic, Version, NodeByte, CountZero, GapTwice, Group, Place, BurstLong, Truncated, AfterEnd, TooLong}
-use Rattle.t1s_capture.specs.Captures.{CaptureItem, Gap, Beacon, IsItemList, IsCapture, IsCapturePrefix, begun_text, beacon_symbols}
+use Rattle.t1s_capture.specs.declared.stage.CountSoFar.TheVariants.{Three}
+use Rattle.t1s_capture.specs.Captures.{CaptureItem, Gap, NeedsBlur, no_symbols, IsCapture, IsCapturePrefix}
+use Rattle.t1s_capture.specs.Fronts.{Tail, in_gap, in_burst, in_blur, after_torn, ended, behind, AreMadeOf}
 
--- Octets after which an item or a symbol may be tried: items stand behind the header, and behind them,
--- where a burst is begun, some of its symbols.
+-- an item or a symbol may be tried: behind the header, behind an item that is complete, and behind a symbol
+abbrev pub IsOpenTail : Tail → Type 0
+IsOpenTail (in_burst b) = Unit {0}
+IsOpenTail after_torn = Unit {0}
+IsOpenTail _ = ⊥
+
 pub record IsOpen (octets : List ℕ) : Type 0 where
   pub node : ℕ
   pub items : List CaptureItem
-  pub begun : ℕ
-  pub node_in_range : node < 16
-  pub valid : IsItemList items
-  pub burst : 0 < begun → IsItemList (items ++ Beacon ∷ [])
-  pub text : octets ≡ begun_text node items ++ map group (take begun beacon_symbols)
+  pub tail : Tail
+  pub tried : IsOpenTail tail
+  pub made : AreMadeOf octets (behind node items tail)
 
--- Octets whose last item is a gap.
+-- octets whose last item is a gap, which is complete
 pub record EndsWithGap (octets : List ℕ) : Type 0 where
   pub node : ℕ
   pub items : List CaptureItem
   pub ticks : ℕ
-  pub node_in_range : node < 16
-  pub valid : IsItemList (items ++ Gap ticks ∷ [])
-  pub text : octets ≡ begun_text node (items ++ Gap ticks ∷ [])
+  pub made : AreMadeOf octets (behind node (items ++ Gap ticks ∷ []) (in_burst no_symbols))
 
--- Octets that end within the count of a gap, where three octets of the count are taken and are 0.
+-- a count that has to be at least 1, of which three octets are taken and are 0
+abbrev pub IsZeroCount : Tail → Type 0
+IsZeroCount (in_gap (Three a b c)) = (a ≡ 0) × (b ≡ 0) × (c ≡ 0)
+IsZeroCount (in_blur symbols (Three a b c)) = NeedsBlur symbols × (a ≡ 0) × (b ≡ 0) × (c ≡ 0)
+IsZeroCount _ = ⊥
+
 pub record EndsInZeros (octets : List ℕ) : Type 0 where
   pub node : ℕ
   pub items : List CaptureItem
-  pub node_in_range : node < 16
-  pub valid : IsItemList (items ++ Gap 1 ∷ [])
-  pub text : octets ≡ begun_text node items ++ 0x20 ∷ 0 ∷ 0 ∷ 0 ∷ []
+  pub tail : Tail
+  pub zeros : IsZeroCount tail
+  pub made : AreMadeOf octets (behind node items tail)
 
--- The octet begins no item, ends none and is no symbol's group.
+-- the octet begins no item, ends none and is no symbol's group
 pub record IsUnknown (octet : ℕ) : Type 0 where
   pub no_group : symbol octet ≡ None
   pub no_gap : octet ≢ 0x20
   pub no_end : octet ≢ 0x21
   pub no_torn : octet ≢ 0x22
+
+-- the octets end in symbols of a burst, for which the symbol of this group is one too many
+pub record GrowsTooLong (octets : List ℕ) (octet : ℕ) : Type 0 where
+  pub node : ℕ
+  pub items : List CaptureItem
+  pub symbols : Beginning
+  pub next : Symbol
+  pub made : AreMadeOf octets (behind node items (in_burst symbols))
+  pub group : symbol octet ≡ Some next
+  pub too_long : IsTooLong (beginning_symbols symbols) next
 
 -- When a reason holds for an octet, by the octets before it, which begin a capture.
 abbrev pub Holds : Why → List ℕ → ℕ → Type 0
@@ -52,8 +71,7 @@ Holds NodeByte before octet = length before ≡ 5
 Holds CountZero before octet = EndsInZeros before × (octet ≡ 0)
 Holds Group before octet = IsOpen before × IsUnknown octet
 Holds GapTwice before octet = EndsWithGap before × (octet ≡ 0x20)
--- no burst that this decoder knows grows too long
-Holds BurstLong before octet = ⊥
+Holds BurstLong before octet = GrowsTooLong before octet
 -- all others
 Holds Place before octet = Unit {0}
 -- at the end of the octets only

@@ -1,83 +1,98 @@
 -- A decoder stands for the octets that it has taken.
-use Rattle.std.specs.Prelude.{◌≡◌, ℕ, ◌^◌, ◌<◌, ◌≤◌, List, [], ◌∷◌, ◌++◌, length, map, take, All}
-use Rattle.t1s_symbols.specs.Groups.{group}
-use Rattle.t1s_capture.specs.declared.stage.CountSoFar.{CountSoFar}
-use Rattle.t1s_capture.specs.declared.stage.CountSoFar.TheVariants.{Nothing, One, Two, Three}
+use Rattle.std.specs.Prelude.{◌≡◌, ℕ, ◌^◌, ◌≤◌, ◌==◌, ◌||◌, Bool, false, List, [], ◌∷◌, ◌++◌, length, drop}
+use Rattle.t1s_scramble.specs.Scrambled.{start_history, descrambled_nibbles, descrambler_after}
+use Rattle.t1s_grammar.specs.Burst.{pieces_symbols}
+use Rattle.t1s_grammar.specs.Prefixes.{Beginning, phase_of, whole_pieces, last_nibbles}
+use Rattle.t1s_grammar.specs.Steps.{ends_burst}
+use Rattle.t1s_pcs_rx.specs.Views.{View}
+use Rattle.t1s_capture.specs.declared.items.Counts.{Counts}
+use Rattle.t1s_capture.specs.declared.stage.BurstSoFar.{BurstSoFar}
+use Rattle.t1s_capture.specs.declared.stage.BlurSoFar.{BlurSoFar}
 use Rattle.t1s_capture.specs.declared.stage.Stage.{Stage}
-use Rattle.t1s_capture.specs.declared.stage.Stage.TheVariants.{Magic, Version, Node, First, AfterGap, InGap, InBeacon, Ended}
-use Rattle.t1s_capture.specs.Captures.{CaptureItem, Gap, Beacon, IsItemList, beacon_symbols, begun_text, magic, ticks_of, beacons_of}
-use Rattle.t1s_capture.specs.State.{DecoderState}
+use Rattle.t1s_capture.specs.declared.stage.Stage.TheVariants.{Magic, Version, Node, InGap, InBurst, InBlur, AfterTorn, Ended}
+use Rattle.t1s_capture.specs.Captures.{CaptureItem, is_gap, no_symbols, symbol_count}
+use Rattle.t1s_capture.specs.Pieces.{pieces_nibbles, nibbles_in, history_behind, piece_views, views_of, counts_with}
+use Rattle.t1s_capture.specs.Fronts.{Tail, in_gap, in_burst, in_blur, after_torn, ended, Front, in_magic, at_version, at_node, behind, AreMadeOf}
+use Rattle.t1s_capture.specs.State.{ReaderState, DecoderState}
 
--- the octets of a count that is begun
-abbrev pub counted_octets : CountSoFar → List ℕ
-counted_octets Nothing = []
-counted_octets (One a) = a ∷ []
-counted_octets (Two a b) = a ∷ b ∷ []
-counted_octets (Three a b c) = a ∷ b ∷ c ∷ []
+-- whether the last item is a gap
+abbrev pub ends_with_gap : List CaptureItem → Bool
+ends_with_gap [] = false
+ends_with_gap (x ∷ []) = is_gap x
+ends_with_gap (x ∷ y ∷ ys) = ends_with_gap (y ∷ ys)
 
--- the octets behind the items that are complete
-abbrev pub begun_octets : Stage → List ℕ
-begun_octets (Magic n) = []
-begun_octets Version = []
-begun_octets Node = []
-begun_octets First = []
-begun_octets AfterGap = []
-begun_octets (InGap count) = 0x20 ∷ counted_octets count
-begun_octets (InBeacon n) = map group (take n beacon_symbols)
-begun_octets Ended = 0x21 ∷ []
+-- whether the blur behind these symbols has to be at least 1
+abbrev pub needs_blur : Beginning → Bool
+needs_blur b = (symbol_count b == 0) || ends_burst (phase_of b)
 
--- an item that may stand where one is begun
-abbrev pub begun_items : Stage → List CaptureItem
-begun_items (Magic n) = []
-begun_items Version = []
-begun_items Node = []
-begun_items First = []
-begun_items AfterGap = []
-begun_items (InGap count) = Gap 1 ∷ []
-begun_items (InBeacon n) = Beacon ∷ []
-begun_items Ended = []
+abbrev pub burst_stage : List CaptureItem → Beginning → BurstSoFar
+burst_stage items b = record {
+  place = phase_of b;
+  symbols = symbol_count b;
+  closed = length (pieces_symbols (whole_pieces b));
+  behind_gap = ends_with_gap items;
+}
 
--- what a stage says of the items that are complete, and of its own numbers
-abbrev pub IsBehind : Stage → List CaptureItem → Type 0
-IsBehind (Magic n) items = ⊥
-IsBehind Version items = ⊥
-IsBehind Node items = ⊥
-IsBehind First items = items ≡ []
-IsBehind AfterGap items = (before : List CaptureItem) × (n : ℕ) × (items ≡ before ++ Gap n ∷ [])
-IsBehind (InGap count) items = All (λ octet. octet < 256) (counted_octets count)
-IsBehind (InBeacon n) items = (0 < n) × (n ≤ 5)
-IsBehind Ended items = Unit {0}
+abbrev pub tail_stage : List CaptureItem → Tail → Stage
+tail_stage items (in_gap count) = InGap count
+tail_stage items (in_burst b) = InBurst (burst_stage items b)
+tail_stage items (in_blur b count) = InBlur (record { needed = needs_blur b; symbols = symbol_count b; count = count })
+tail_stage items after_torn = AfterTorn
+tail_stage items ended = Ended
 
--- the octets are a header, complete items with these ticks and beacons, and what the stage has begun
-pub record HasReached (octets : List ℕ) (stage : Stage) (ticks beacons : ℕ) : Type 0 where
-  pub node : ℕ
-  pub items : List CaptureItem
-  pub node_in_range : node < 16
-  pub valid : IsItemList (items ++ begun_items stage)
-  pub behind : IsBehind stage items
-  pub text : octets ≡ begun_text node items ++ begun_octets stage
-  pub ticks_are : ticks ≡ ticks_of items
-  pub beacons_are : beacons ≡ beacons_of items
+-- the symbols behind the items that are complete
+abbrev pub tail_symbols : Tail → Beginning
+tail_symbols (in_gap count) = no_symbols
+tail_symbols (in_burst b) = b
+tail_symbols (in_blur b count) = b
+tail_symbols after_torn = no_symbols
+tail_symbols ended = no_symbols
 
--- the octets are the front of a header, without its node
-pub record IsInHeader (octets : List ℕ) (front : List ℕ) (ticks beacons : ℕ) : Type 0 where
-  pub text : octets ≡ front
-  pub no_ticks : ticks ≡ 0
-  pub no_beacons : beacons ≡ 0
+-- the nibbles that are kept of the piece that has begun, where the descrambler had this history before the burst
+abbrev pub kept_of : List Bool → Beginning → List ℕ
+kept_of past b =
+    drop 9 (descrambled_nibbles (descrambler_after past (pieces_nibbles (whole_pieces b))) (last_nibbles b))
 
--- the octets end in this stage
-abbrev pub EndsIn : List ℕ → Stage → ℕ → ℕ → Type 0
-EndsIn octets (Magic n) ticks beacons = (n < 4) × IsInHeader octets (take n magic) ticks beacons
-EndsIn octets Version ticks beacons = IsInHeader octets magic ticks beacons
-EndsIn octets Node ticks beacons = IsInHeader octets (magic ++ 0x01 ∷ []) ticks beacons
-EndsIn octets First ticks beacons = HasReached octets First ticks beacons
-EndsIn octets AfterGap ticks beacons = HasReached octets AfterGap ticks beacons
-EndsIn octets (InGap count) ticks beacons = HasReached octets (InGap count) ticks beacons
-EndsIn octets (InBeacon n) ticks beacons = HasReached octets (InBeacon n) ticks beacons
-EndsIn octets Ended ticks beacons = HasReached octets Ended ticks beacons
+abbrev pub tail_kept : List Bool → Tail → List ℕ
+tail_kept past (in_burst b) = kept_of past b
+tail_kept past _ = []
+
+-- the views of all pieces so far
+abbrev pub views_at : List CaptureItem → Beginning → List View
+views_at items b = views_of items ++ piece_views (history_behind items) (whole_pieces b)
+
+abbrev pub counts_at : List CaptureItem → Tail → Counts
+counts_at items tail = counts_with items (views_at items (tail_symbols tail))
+
+abbrev pub reader_at : List CaptureItem → Tail → ReaderState
+reader_at items tail = record {
+  history = descrambler_after (history_behind items) (nibbles_in (tail_symbols tail));
+  kept = tail_kept (history_behind items) tail;
+}
+
+-- what a decoder keeps of so many octets that are made of this
+abbrev pub header_state : ℕ → Stage → DecoderState
+header_state taken stage = record {
+  taken = taken;
+  counts = counts_with [] [];
+  reader = record { history = start_history; kept = [] };
+  stage = stage;
+}
+
+abbrev pub state_of : ℕ → Front → DecoderState
+state_of taken (in_magic n) = header_state taken (Magic n)
+state_of taken at_version = header_state taken Version
+state_of taken at_node = header_state taken Node
+state_of taken (behind node items tail) = record {
+  taken = taken;
+  counts = counts_at items tail;
+  reader = reader_at items tail;
+  stage = tail_stage items tail;
+}
 
 -- what a decoder keeps is right for the octets that it has taken
 pub record Stands (octets : List ℕ) (decoder : DecoderState) : Type 0 where
-  pub taken : decoder.taken ≡ length octets
-  pub limit : decoder.taken ≤ 2 ^ 30
-  pub stage : EndsIn octets decoder.stage decoder.ticks decoder.beacons
+  pub front : Front
+  pub made : AreMadeOf octets front
+  pub limit : length octets ≤ 2 ^ 30
+  pub keeps : decoder ≡ state_of (length octets) front

@@ -1,17 +1,23 @@
 -- What contracts see of a decoder and of a held item.
-use Rattle.std.specs.Prelude.{ℕ}
-use Rattle.t1s_capture.specs.declared.items.Item.{Item}
+use Rattle.std.specs.Prelude.{ℕ, Bool, List}
+use Rattle.t1s_capture.specs.declared.items.Counts.{Counts}
 use Rattle.t1s_capture.specs.declared.stage.Stage.{Stage}
+use Rattle.t1s_capture.specs.Handed.{Handed}
 
--- `taken` octets were taken, `stage` is what they end in, and `ticks` and `beacons` count the items that
--- are complete
+-- the history of the descrambler, and the nibbles that are kept of the piece that has begun: those from the tenth on
+pub record ReaderState : Type 0 where
+  pub history : List Bool
+  pub kept : List ℕ
+
+-- `taken` octets were taken, `stage` is what they end in, and `counts` counts the items that are complete, and
+-- all pieces
 pub record DecoderState : Type 0 where
   pub taken : ℕ
+  pub counts : Counts
+  pub reader : ReaderState
   pub stage : Stage
-  pub ticks : ℕ
-  pub beacons : ℕ
 
 -- an item, and the decoder that goes on behind it
 pub record HeldState : Type 0 where
-  pub item : Item
+  pub item : Handed
   pub decoder : DecoderState

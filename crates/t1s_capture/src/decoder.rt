@@ -1,19 +1,19 @@
+//! The decoder of captures.
 use crate::items::{Counts, Item, Refusal, Why};
-use crate::stage::{Stage, Turn};
+use crate::kept::KeptItem;
+use crate::progress::Progress;
+use crate::reader::PieceReader;
+use crate::stage::Stage;
 use std::marker::Model;
 
 /// The most octets that a capture may have.
 const LIMIT: u64 = 1 << 30;
-/// The ticks of a beacon: five symbols of four ticks.
-const BEACON_TICKS: u64 = 20;
 
 /// Reads a capture octet by octet.
 #[derive(Drop)]
 pub struct Decoder {
-    taken: u64,
+    progress: Progress,
     stage: Stage,
-    ticks: u64,
-    beacons: u64,
 }
 
 impl Model for Decoder {
@@ -21,29 +21,22 @@ impl Model for Decoder {
 
     ghost Value = { DecoderState };
 
-    ghost use Rattle.std.specs.Prelude.{◌+◌, ◌*◌, ◌^◌, ◌≤◌, IsTrue};
-    ghost use Rattle.t1s_capture.specs.Turns.{octets_begun, stage_in_range};
+    ghost use Rattle.t1s_capture.specs.Ranges.{Fits};
 
     ghost view = { λ d. record {
-      taken = d.taken;
+      taken = d.progress.taken;
+      counts = d.progress.counts;
+      reader = d.progress.reader;
       stage = d.stage;
-      ticks = d.ticks;
-      beacons = d.beacons;
     } };
 
-    // Each octet accounts for at most 2^30 ticks, so the ticks of a capture of at most 2^30 octets fit.
-    ghost invariant = { λ d. record {
-      limit : d.taken ≤ 2 ^ 30;
-      stage : IsTrue (stage_in_range d.stage);
-      ticks : d.ticks + 2 ^ 30 * octets_begun d.stage ≤ 2 ^ 30 * d.taken;
-      beacons : d.beacons ≤ d.taken;
-    } };
+    ghost invariant = { λ d. Fits d.progress d.stage };
 }
 
 /// A decoder that holds an item until it is released: no octet can be fed meanwhile.
 #[derive(Drop)]
 pub struct Held {
-    item: Item,
+    item: KeptItem,
     decoder: Decoder,
 }
 
@@ -52,8 +45,10 @@ impl Model for Held {
 
     ghost Value = { HeldState };
 
+    ghost use Rattle.t1s_capture.specs.Kept.{handed};
+
     ghost view = { λ h. record {
-      item = h.item;
+      item = handed h.item;
       decoder = h.decoder;
     } };
 }
@@ -72,23 +67,36 @@ pub enum Next {
 impl Decoder {
     ghost use Rattle.std.specs.Prelude.{◌≡◌, ◌↔◌, ℕ, List, [], ◌∷◌, ◌++◌, length};
     ghost use Rattle.t1s_capture.specs.declared.items.Counts.{Counts};
-    ghost use Rattle.t1s_capture.specs.declared.items.Item.{Item};
     ghost use Rattle.t1s_capture.specs.declared.items.Refusal.{Refusal};
     ghost use Rattle.t1s_capture.specs.Captures.{IsCapturePrefix};
+    ghost use Rattle.t1s_capture.specs.Handed.{Handed, IsItemOctet};
     ghost use Rattle.t1s_capture.specs.Offences.{IsFirstOffence};
-    ghost use Rattle.t1s_capture.specs.Stands.{Stands};
-    ghost use Rattle.t1s_capture.specs.Advance.{advance};
-    ghost use Rattle.t1s_capture.specs.Answers.{HandsOut, IsCountedCapture, IsItemOctet, StandsAfter};
+    ghost use Rattle.t1s_capture.specs.Stands.{Stands, state_of};
+    ghost use Rattle.t1s_capture.specs.Fronts.{in_magic};
+    ghost use Rattle.t1s_capture.specs.Answers.{HandsOut, IsCountedCapture, StandsAfter};
+    ghost use Rattle.t1s_capture.specs.Ranges.{Fits};
+    ghost use Rattle.t1s_capture.specs.Advance.{advance, finished};
 
     /// A decoder that has taken no octet.
     pub fn new() -> Decoder
+        ensures value { result ≡ state_of 0 (in_magic 0) }
         ensures stands { Stands [] result }
     {
         Decoder {
-            taken: 0,
+            progress: Progress {
+                taken: 0,
+                counts: Counts {
+                    ticks: 0,
+                    beacons: 0,
+                    runs: 0,
+                    bare: 0,
+                    torn: 0,
+                    pieces: 0,
+                    good: 0,
+                },
+                reader: PieceReader::new(),
+            },
             stage: Stage::Magic(0),
-            ticks: 0,
-            beacons: 0,
         }
     }
 
@@ -97,50 +105,13 @@ impl Decoder {
     /// is the first offence, with its offset and the first reason that holds, and otherwise the decoder goes on.
     pub fn step(self, octet: u8) -> Next
         ensures prefix { (before : List ℕ) → Stands before self → IsCapturePrefix before }
-        ensures item { (before : List ℕ) (item : Item) → Stands before self →
+        ensures item { (before : List ℕ) (item : Handed) → Stands before self →
             HandsOut result item ↔ IsItemOctet before octet item }
         ensures refused { (before : List ℕ) (r : Refusal) → Stands before self → (result ≡ Next.Refused r) ↔
             ((r.offset ≡ length before) × IsFirstOffence (before ++ octet ∷ []) r.offset r.why) }
         ensures goes_on { (before : List ℕ) → Stands before self → StandsAfter (before ++ octet ∷ []) result }
     {
         self.advance(octet)
-    }
-
-    /// The octet by the table of stages.
-    fn advance(self, octet: u8) -> Next
-        ensures { result ≡ advance self octet }
-    {
-        let offset = self.taken;
-        if offset == LIMIT {
-            return Next::Refused(Refusal {
-                offset,
-                why: Why::TooLong,
-            });
-        }
-        match self.stage.turn(octet) {
-            Turn::Goes(stage) => Next::More(Decoder {
-                taken: offset + 1,
-                stage,
-                ticks: self.ticks,
-                beacons: self.beacons,
-            }),
-            Turn::GapEnds(ticks) => Next::More(Decoder {
-                taken: offset + 1,
-                stage: Stage::AfterGap,
-                ticks: self.ticks + ticks as u64,
-                beacons: self.beacons,
-            }),
-            Turn::BeaconEnds(stage) => Next::Held(Held {
-                item: Item::Beacon { start: self.ticks },
-                decoder: Decoder {
-                    taken: offset + 1,
-                    stage,
-                    ticks: self.ticks + BEACON_TICKS,
-                    beacons: self.beacons + 1,
-                },
-            }),
-            Turn::Refuses(why) => Next::Refused(Refusal { offset, why }),
-        }
     }
 
     /// Ends the input. It is Ok exactly where the octets that were taken are a capture, with its counts.
@@ -150,18 +121,36 @@ impl Decoder {
         ensures truncated { (octets : List ℕ) (r : Refusal) → Stands octets self →
             (result ≡ Err r) ↔ IsFirstOffence octets r.offset r.why }
     {
+        self.ended()
+    }
+
+    /// The decoder at this stage.
+    pub(crate) fn of(progress: Progress, stage: Stage) -> Decoder
+        requires { Fits progress stage }
+        ensures { result ≡ record { taken = progress.taken; counts = progress.counts; reader = progress.reader; stage = stage } }
+    {
+        Decoder { progress, stage }
+    }
+
+    /// The octet by the table of stages.
+    fn advance(self, octet: u8) -> Next
+        ensures { result ≡ advance self octet }
+    {
+        let Decoder { progress, stage } = self;
+        if progress.taken == LIMIT {
+            return progress.refuses(Why::TooLong);
+        }
+        progress.step(stage, octet)
+    }
+
+    /// The end by the stage.
+    fn ended(self) -> Result<Counts, Refusal>
+        ensures { result ≡ finished self }
+    {
         match self.stage {
-            Stage::Ended => Ok(Counts {
-                ticks: self.ticks,
-                beacons: self.beacons,
-                runs: 0,
-                bare: 0,
-                torn: 0,
-                pieces: 0,
-                good: 0,
-            }),
+            Stage::Ended => Ok(self.progress.counts),
             _ => Err(Refusal {
-                offset: self.taken,
+                offset: self.progress.taken,
                 why: Why::Truncated,
             }),
         }
@@ -170,12 +159,20 @@ impl Decoder {
 
 impl Held {
     ghost use Rattle.std.specs.Prelude.{◌≡◌};
+    ghost use Rattle.t1s_capture.specs.Kept.{handed, shown};
 
-    /// The item that is held.
-    pub fn item(&self) -> Item
-        ensures item { result ≡ self.now.item }
+    /// An item, and the decoder behind it.
+    pub(crate) fn of(item: KeptItem, decoder: Decoder) -> Held
+        ensures { result ≡ record { item = handed item; decoder = decoder } }
     {
-        self.item
+        Held { item, decoder }
+    }
+
+    /// The item that is held, lent until the decoder is released.
+    pub fn item(&self) -> Item<'_>
+        ensures item { shown result ≡ self.now.item }
+    {
+        self.item.lent()
     }
 
     /// Lets the item go. The decoder stands for all octets taken, the one that handed the item out among them.

@@ -1,3 +1,5 @@
+use t1s_pcs_rx::PieceView;
+
 /// Why octets are refused.
 #[derive(Clone, Copy, PartialEq, Eq, Debug)]
 pub enum Why {
@@ -32,7 +34,8 @@ pub struct Refusal {
     pub why: Why,
 }
 
-/// What a whole capture has: its ticks, its items of each kind, and its pieces, `good` ones among them.
+/// What a whole capture has: its ticks, its items of each kind, and its pieces, those in torn bursts and `good` ones
+/// among them. A torn burst counts as `torn` alone.
 #[derive(Clone, Copy, PartialEq, Eq, Debug)]
 pub struct Counts {
     pub ticks: u64,
@@ -44,9 +47,35 @@ pub struct Counts {
     pub good: u64,
 }
 
-/// An item of a capture. Ticks count from the capture's start.
+/// An item of a capture. Ticks count from the capture's start: `start` is the first tick of the item, and `end` the
+/// tick behind its last.
 #[derive(Clone, Copy, PartialEq, Eq, Debug)]
-pub enum Item {
-    /// A beacon, by the tick of its first symbol.
-    Beacon { start: u64 },
+pub enum Item<'a> {
+    /// A piece, by the first tick of its lead. It may stand in a burst that is torn later.
+    Piece {
+        start: u64,
+        view: PieceView<'a>,
+    },
+    /// A beacon.
+    Beacon {
+        start: u64,
+    },
+    /// A run of so many pieces.
+    Run {
+        start: u64,
+        end: u64,
+        pieces: u64,
+    },
+    /// A bare commit.
+    Bare {
+        start: u64,
+        end: u64,
+    },
+    /// A burst that was torn behind so many symbols, with so many ticks behind them that belong to none.
+    Torn {
+        start: u64,
+        end: u64,
+        symbols: u64,
+        blur: u64,
+    },
 }

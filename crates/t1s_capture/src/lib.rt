@@ -2,14 +2,18 @@
 //!
 //! The layer above uses [`Decoder`]: it takes a capture octet by octet, however the octets were cut, hands out
 //! each item at its octet, and refuses at the first octet that leaves the grammar. Captures stand in
-//! `specs/Captures.antt`, the first offence and its reasons in `specs/Offences.antt`, what a decoder stands for
-//! in `specs/Stands.antt`, and what its answers say in `specs/Answers.antt`. So far the items of a capture are
-//! gaps and beacons: the groups of all other symbols and the octet 22 are refused.
+//! `specs/Captures.antt`, what octets that begin a capture are made of in `specs/Fronts.antt`, the first offence and its
+//! reasons in `specs/Offences.antt`, the pieces and counts of a capture in `specs/Pieces.antt`, the items that are handed
+//! out and their octets in `specs/Handed.antt`, what a decoder stands for in `specs/Stands.antt`, and what its answers
+//! say in `specs/Answers.antt`.
 #![tactic(auto)]
 
 mod decoder;
 mod items;
+mod kept;
 pub mod laws;
+mod progress;
+mod reader;
 mod stage;
 #[cfg(test)]
 mod tests;

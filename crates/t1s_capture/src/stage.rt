@@ -1,8 +1,10 @@
-ghost use Rattle.std.specs.Prelude.{◌≡◌, ◌<◌, IsTrue, slice_index};
+//! What the octets that a decoder has taken end in.
+ghost use Rattle.std.specs.Prelude.{◌≡◌, ◌<◌, slice_index, IfOk};
 ghost use Rattle.t1s_capture.specs.Captures.{magic};
-ghost use Rattle.t1s_capture.specs.Turns.{after_gap_turn, count_of, first_turn, gap_turn, mark, partial_beacon_turn, stage_in_range, turn, whole_beacon_turn, TurnIsInRange, TurnIsPaid};
+ghost use Rattle.t1s_capture.specs.Advance.{count_of, mark, no_burst};
+ghost use Rattle.t1s_capture.specs.Marks.{MarkInRange};
 
-use crate::items::Why;
+use t1s_grammar::Place;
 use t1s_symbols::{Symbol, symbol_of};
 
 /// Begins a gap.
@@ -11,14 +13,8 @@ const GAP: u8 = 0x20;
 const END: u8 = 0x21;
 /// Ends the symbols of a torn burst.
 const TORN: u8 = 0x22;
-/// The symbols of a beacon.
-const BEACON_SYMBOLS: u8 = 5;
-/// The only version of the format.
-const VERSION: u8 = 1;
-/// A node's number is below this.
-const NODES: u8 = 16;
 
-/// The octets of a gap's count that were taken, the high one first.
+/// The octets of a count that were taken, the high one first.
 #[derive(Clone, Copy)]
 pub enum CountSoFar {
     Nothing,
@@ -27,8 +23,31 @@ pub enum CountSoFar {
     Three(u8, u8, u8),
 }
 
-/// What the octets so far end in.
+/// The symbols of a burst so far, or none yet.
+#[derive(Drop)]
+pub struct BurstSoFar {
+    /// The place in the grammar behind them.
+    pub place: Place,
+    /// How many symbols there are.
+    pub symbols: u64,
+    /// How many of them stand before the piece that may come next.
+    pub closed: u64,
+    /// Whether a gap stands before them.
+    pub behind_gap: bool,
+}
+
+/// The blur of a torn burst, of which some octets were taken.
 #[derive(Clone, Copy)]
+pub struct BlurSoFar {
+    /// Whether it has to be at least 1.
+    pub needed: bool,
+    /// How many symbols the burst has.
+    pub symbols: u64,
+    pub count: CountSoFar,
+}
+
+/// What the octets so far end in.
+#[derive(Drop)]
 pub enum Stage {
     /// Within the first four octets, so many of which (below 4) were taken.
     Magic(u8),
@@ -36,14 +55,14 @@ pub enum Stage {
     Version,
     /// Before the node.
     Node,
-    /// Behind the header, before any item.
-    First,
-    /// Behind a gap.
-    AfterGap,
     /// Within the count of a gap.
     InGap(CountSoFar),
-    /// Within a beacon or directly behind it, by the symbols taken (1 to 5).
-    InBeacon(u8),
+    /// Where a burst may begin, or behind a symbol.
+    InBurst(BurstSoFar),
+    /// Within the count of a torn burst's blur.
+    InBlur(BlurSoFar),
+    /// Behind a torn burst.
+    AfterTorn,
     /// Behind the capture's end.
     Ended,
 }
@@ -54,113 +73,36 @@ pub enum Mark {
     Gap,
     End,
     Torn,
-    /// A symbol of a beacon.
-    Beacon,
-    /// Any other symbol.
-    Other,
+    /// The group of a symbol.
+    Known(Symbol),
     /// None of these.
     Unknown,
 }
 
-/// What an octet does to a stage.
-#[derive(Clone, Copy)]
-pub enum Turn {
-    /// No item ends.
-    Goes(Stage),
-    /// A gap of so many ticks ends.
-    GapEnds(u32),
-    /// A beacon has ended before the octet.
-    BeaconEnds(Stage),
-    /// The octet leaves the grammar.
-    Refuses(Why),
-}
-
-fn mark_of(octet: u8) -> Mark
-    ensures { result ≡ mark octet }
+pub fn mark_of(octet: u8) -> Mark
+    ensures mark { result ≡ mark octet }
+    ensures symbol { MarkInRange result }
 {
     match octet {
         GAP => Mark::Gap,
         END => Mark::End,
         TORN => Mark::Torn,
         _ => match symbol_of(octet) {
-            Some(Symbol::N) => Mark::Beacon,
-            Some(_) => Mark::Other,
+            Some(symbol) => Mark::Known(symbol),
             None => Mark::Unknown,
         },
     }
 }
 
-fn first_turn(mark: Mark) -> Turn
-    ensures { result ≡ first_turn mark }
-{
-    match mark {
-        Mark::Gap => Turn::Goes(Stage::InGap(CountSoFar::Nothing)),
-        Mark::End => Turn::Goes(Stage::Ended),
-        Mark::Beacon => Turn::Goes(Stage::InBeacon(1)),
-        Mark::Torn | Mark::Other => Turn::Refuses(Why::Place),
-        Mark::Unknown => Turn::Refuses(Why::Group),
-    }
-}
-
-fn after_gap_turn(mark: Mark) -> Turn
-    ensures { result ≡ after_gap_turn mark }
-{
-    match mark {
-        Mark::Gap => Turn::Refuses(Why::GapTwice),
-        Mark::End => Turn::Goes(Stage::Ended),
-        Mark::Beacon => Turn::Goes(Stage::InBeacon(1)),
-        Mark::Torn | Mark::Other => Turn::Refuses(Why::Place),
-        Mark::Unknown => Turn::Refuses(Why::Group),
-    }
-}
-
-fn gap_turn(count: CountSoFar, octet: u8) -> Turn
-    ensures { result ≡ gap_turn count octet }
-{
-    match count {
-        CountSoFar::Nothing => Turn::Goes(Stage::InGap(CountSoFar::One(octet))),
-        CountSoFar::One(a) => Turn::Goes(Stage::InGap(CountSoFar::Two(a, octet))),
-        CountSoFar::Two(a, b) => Turn::Goes(Stage::InGap(CountSoFar::Three(a, b, octet))),
-        CountSoFar::Three(a, b, c) => match count_of(a, b, c, octet) {
-            0 => Turn::Refuses(Why::CountZero),
-            ticks => Turn::GapEnds(ticks),
-        },
-    }
-}
-
 /// A count by its four octets, the high one first.
-fn count_of(a: u8, b: u8, c: u8, d: u8) -> u32
+pub fn count_of(a: u8, b: u8, c: u8, d: u8) -> u32
     ensures { result ≡ count_of a b c d }
 {
     ((a as u32 * 256 + b as u32) * 256 + c as u32) * 256 + d as u32
 }
 
-/// Behind fewer than five symbols of a beacon.
-fn partial_beacon_turn(symbols: u8, mark: Mark) -> Turn
-    requires { symbols < 5 }
-    ensures { result ≡ partial_beacon_turn symbols mark }
-{
-    match mark {
-        Mark::Beacon => Turn::Goes(Stage::InBeacon(symbols + 1)),
-        Mark::Gap | Mark::End | Mark::Torn | Mark::Other => Turn::Refuses(Why::Place),
-        Mark::Unknown => Turn::Refuses(Why::Group),
-    }
-}
-
-/// Behind a beacon.
-fn whole_beacon_turn(mark: Mark) -> Turn
-    ensures { result ≡ whole_beacon_turn mark }
-{
-    match mark {
-        Mark::Gap => Turn::BeaconEnds(Stage::InGap(CountSoFar::Nothing)),
-        Mark::End => Turn::BeaconEnds(Stage::Ended),
-        Mark::Torn | Mark::Beacon | Mark::Other => Turn::Refuses(Why::Place),
-        Mark::Unknown => Turn::Refuses(Why::Group),
-    }
-}
-
 /// The octet of `T1SC` behind so many of its octets.
-fn magic_octet(taken: u8) -> u8
+pub fn magic_octet(taken: u8) -> u8
     requires { taken < 4 }
     ensures { result ≡ slice_index magic taken }
 {
@@ -172,28 +114,16 @@ fn magic_octet(taken: u8) -> u8
     }
 }
 
-impl Stage {
-    /// What this octet does to the stage.
-    pub fn turn(self, octet: u8) -> Turn
-        requires { IsTrue (stage_in_range self) }
-        ensures turn { result ≡ turn self octet }
-        ensures paid { TurnIsPaid self result }
-        ensures in_range { TurnIsInRange result }
+impl BurstSoFar {
+    /// No symbol yet.
+    pub fn none(behind_gap: bool) -> BurstSoFar
+        ensures { result ≡ no_burst behind_gap }
     {
-        match self {
-            Stage::Magic(taken) if octet != magic_octet(taken) => Turn::Refuses(Why::Magic),
-            Stage::Magic(3) => Turn::Goes(Stage::Version),
-            Stage::Magic(taken) => Turn::Goes(Stage::Magic(taken + 1)),
-            Stage::Version if octet == VERSION => Turn::Goes(Stage::Node),
-            Stage::Version => Turn::Refuses(Why::Version),
-            Stage::Node if octet < NODES => Turn::Goes(Stage::First),
-            Stage::Node => Turn::Refuses(Why::NodeByte),
-            Stage::First => first_turn(mark_of(octet)),
-            Stage::AfterGap => after_gap_turn(mark_of(octet)),
-            Stage::InGap(count) => gap_turn(count, octet),
-            Stage::InBeacon(BEACON_SYMBOLS) => whole_beacon_turn(mark_of(octet)),
-            Stage::InBeacon(symbols) => partial_beacon_turn(symbols, mark_of(octet)),
-            Stage::Ended => Turn::Refuses(Why::AfterEnd),
+        BurstSoFar {
+            place: Place::start(),
+            symbols: 0,
+            closed: 0,
+            behind_gap,
         }
     }
 }

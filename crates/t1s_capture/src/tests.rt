@@ -1,77 +1,335 @@
 use crate::{Counts, Decoder, Item, Next, Refusal, Why};
+use std::process::Abort;
+use std::test::Fail;
+use t1s_frame::Frame;
+use t1s_grammar::{PieceText, put_piece};
+use t1s_pcs_rx::{Closer, Kind, PieceView};
+use t1s_scramble::Scrambler;
 
-/// What a decoder says to these octets: the last item with its offset, and the end.
-fn decoded(octets: &[u8]) -> (Option<(usize, Item)>, Result<Counts, Refusal>) {
+/// Wants a decoder to hand out these items at these offsets, and to say this at the end of the octets.
+fn check(
+    rt: &impl Abort,
+    octets: &[u8],
+    items: &[(usize, Item<'_>)],
+    end: Result<Counts, Refusal>,
+) {
+    check_parts(rt, &[octets], items, end);
+}
+
+/// The same for octets in parts.
+fn check_parts(
+    rt: &impl Abort,
+    parts: &[&[u8]],
+    items: &[(usize, Item<'_>)],
+    end: Result<Counts, Refusal>,
+) {
     let mut decoder = Decoder::new();
-    let mut last = None;
-    for (offset, octet) in octets.iter().enumerate() {
-        match decoder.step(*octet) {
-            Next::More(next) => decoder = next,
-            Next::Held(held) => {
-                last = Some((offset, held.item()));
-                decoder = held.release();
+    let mut offset = 0usize;
+    let mut handed = 0usize;
+    for part in parts.iter() {
+        for octet in part.iter() {
+            match decoder.step(*octet) {
+                Next::More(next) => decoder = next,
+                Next::Held(held) => {
+                    assert!(rt; handed < items.len(), "an item at {offset}");
+                    assert_eq!(rt; offset, items[handed].0);
+                    assert_eq!(rt; held.item(), items[handed].1);
+                    handed = handed.saturating_add(1);
+                    decoder = held.release();
+                }
+                Next::Refused(refusal) => {
+                    assert_eq!(rt; handed, items.len());
+                    assert_eq!(rt; Err(refusal), end);
+                    return;
+                }
             }
-            Next::Refused(refusal) => return (last, Err(refusal)),
+            offset = offset.saturating_add(1);
         }
     }
-    (last, decoder.finish())
+    assert_eq!(rt; handed, items.len());
+    assert_eq!(rt; decoder.finish(), end);
 }
 
-fn counts(ticks: u64, beacons: u64) -> Result<Counts, Refusal> {
-    Ok(Counts {
-        ticks,
-        beacons,
-        runs: 0,
-        bare: 0,
-        torn: 0,
-        pieces: 0,
-        good: 0,
-    })
-}
+const NOTHING: Counts = Counts {
+    ticks: 0,
+    beacons: 0,
+    runs: 0,
+    bare: 0,
+    torn: 0,
+    pieces: 0,
+    good: 0,
+};
 
 fn refused(offset: u64, why: Why) -> Result<Counts, Refusal> {
     Err(Refusal { offset, why })
 }
 
+/// Wants these octets to be refused, with nothing handed out before.
+fn check_refused(rt: &impl Abort, octets: &[u8], offset: u64, why: Why) {
+    check(rt, octets, &[], refused(offset, why));
+}
+
 #[test]
-fn captures_are_read_up_to_their_end_or_their_first_offence(rt: HostRuntime) {
-    let rows: [(&[u8], Option<(usize, Item)>, Result<Counts, Refusal>); 12] = [
-        (b"T1SC\x01\x02\x21", None, counts(0, 0)),
-        (
-            b"T1SC\x01\x02\x20\x00\x00\x20\x40\x08\x08\x08\x08\x08\x21",
-            Some((16, Item::Beacon { start: 8256 })),
-            counts(8276, 1),
-        ),
-        (
-            b"T1SC\x01\x02\x20\x00\x00\x00\x01\x20",
-            None,
-            refused(11, Why::GapTwice),
-        ),
-        (
-            b"T1SC\x01\x02\x20\x00\x00\x00\x00",
-            None,
-            refused(10, Why::CountZero),
-        ),
-        (b"T1SC\x01\x02\x21\x00", None, refused(7, Why::AfterEnd)),
-        (b"T1SC\x01\x02\x00", None, refused(6, Why::Group)),
-        (b"T1SC\x01\x02\x1F", None, refused(6, Why::Group)),
-        (
-            b"T1SC\x01\x02\x08\x08\x08\x20",
-            None,
-            refused(9, Why::Place),
-        ),
-        (b"", None, refused(0, Why::Truncated)),
-        (b"T1SD", None, refused(3, Why::Magic)),
-        (b"T1SC\x01\x10", None, refused(5, Why::NodeByte)),
-        (
-            b"T1SC\x01\x0F\x08\x08\x08\x08\x08\x20\x00",
-            Some((11, Item::Beacon { start: 0 })),
-            refused(13, Why::Truncated),
-        ),
-    ];
-    for (octets, item, end) in rows {
-        let said = decoded(octets);
-        assert_eq!(rt; said.0, item, "the item of {octets:?}");
-        assert_eq!(rt; said.1, end, "the end of {octets:?}");
+fn headers_and_counts_are_refused_at_their_first_offence(rt: HostRuntime) {
+    check_refused(&rt, b"", 0, Why::Truncated);
+    check_refused(&rt, b"T1SD", 3, Why::Magic);
+    check_refused(&rt, b"T1SC\x02", 4, Why::Version);
+    check_refused(&rt, b"T1SC\x01\x10", 5, Why::NodeByte);
+    check_refused(&rt, b"T1SC\x01\x02\x20\x00\x00\x00\x00", 10, Why::CountZero);
+    check_refused(
+        &rt,
+        b"T1SC\x01\x02\x20\x00\x00\x00\x01\x20",
+        11,
+        Why::GapTwice,
+    );
+    check_refused(&rt, b"T1SC\x01\x02\x20\x00\x00", 9, Why::Truncated);
+    check_refused(&rt, b"T1SC\x01\x02\x22\x00\x00\x00\x00", 10, Why::CountZero);
+    check_refused(
+        &rt,
+        b"T1SC\x01\x02\x18\x22\x00\x00\x00\x00",
+        11,
+        Why::CountZero,
+    );
+}
+
+#[test]
+fn misplaced_octets_are_refused_where_they_stand(rt: HostRuntime) {
+    check_refused(&rt, b"T1SC\x01\x02\x21\x00", 7, Why::AfterEnd);
+    check_refused(&rt, b"T1SC\x01\x02\x00", 6, Why::Group);
+    check_refused(&rt, b"T1SC\x01\x02\x1F", 6, Why::Group);
+    check_refused(&rt, b"T1SC\x01\x02\x08\x08\x08\x20", 9, Why::Place);
+    check_refused(&rt, b"T1SC\x01\x02\x08\x08\x08\x05", 9, Why::Group);
+    check_refused(&rt, b"T1SC\x01\x02\x18\x04", 7, Why::Place);
+    check_refused(&rt, b"T1SC\x01\x02\x18\x18\x04\x04\x0B", 11, Why::Truncated);
+    check_refused(&rt, b"T1SC\x01\x02\x18\x18\x04\x21", 9, Why::Place);
+}
+
+#[test]
+fn gaps_beacons_and_bare_commits_are_read(rt: HostRuntime) {
+    check(&rt, b"T1SC\x01\x02\x21", &[], Ok(NOTHING));
+    check(
+        &rt,
+        b"T1SC\x01\x02\x20\x00\x00\x20\x40\x08\x08\x08\x08\x08\x21",
+        &[(16, Item::Beacon { start: 8256 })],
+        Ok(Counts {
+            ticks: 8276,
+            beacons: 1,
+            ..NOTHING
+        }),
+    );
+    check(
+        &rt,
+        b"T1SC\x01\x0F\x18\x18\x18\x20\x00\x00\x00\x05\x18\x21",
+        &[
+            (9, Item::Bare { start: 0, end: 12 }),
+            (15, Item::Bare { start: 17, end: 21 }),
+        ],
+        Ok(Counts {
+            ticks: 21,
+            bare: 2,
+            ..NOTHING
+        }),
+    );
+}
+
+/// Wants a run of one piece of twelve groups, closed by this octet, to be read as a piece of this kind.
+fn check_run(rt: &impl Abort, octet: u8, closer: Closer, kind: Kind) {
+    let mut octets =
+        *b"T1SC\x01\x02\x18\x18\x04\x04\x0B\x0B\x0B\x09\x16\x16\x16\x1D\x17\x16\x1C\x1B\x0D\x07\x21";
+    octets[23] = octet;
+    let view = PieceView {
+        lead: 2,
+        groups: 12,
+        closer,
+        kind,
+        frame: &[],
+    };
+    check(
+        rt,
+        &octets,
+        &[
+            (23, Item::Piece { start: 0, view }),
+            (
+                24,
+                Item::Run {
+                    start: 0,
+                    end: 72,
+                    pieces: 1,
+                },
+            ),
+        ],
+        Ok(Counts {
+            ticks: 72,
+            runs: 1,
+            pieces: 1,
+            ..NOTHING
+        }),
+    );
+}
+
+#[test]
+fn a_run_is_read_by_its_closer(rt: HostRuntime) {
+    check_run(&rt, 0x07, Closer::R, Kind::Runt);
+    check_run(&rt, 0x11, Closer::K, Kind::Errored);
+    check_run(&rt, 0x19, Closer::S, Kind::Jabber);
+}
+
+/// A header, and a gap of 16 ticks.
+const FRONT: &[u8] = b"T1SC\x01\x03\x20\x00\x00\x00\x10";
+
+#[test]
+fn a_piece_of_a_frame_gives_the_frame(rt: HostRuntime) -> Result<(), Fail> {
+    let frame = Frame::of_offer(&[0x5A; 60])?;
+    let mut text = PieceText::new();
+    put_piece(&mut text, 3, &mut Scrambler::new(), &frame, true)?;
+    let view = PieceView {
+        lead: 3,
+        groups: 140,
+        closer: Closer::R,
+        kind: Kind::Good,
+        frame: frame.octets(),
+    };
+    check_parts(
+        &rt,
+        &[FRONT, text.as_slice(), b"\x18\x18\x21"],
+        &[
+            (157, Item::Piece { start: 16, view }),
+            (
+                160,
+                Item::Run {
+                    start: 16,
+                    end: 612,
+                    pieces: 1,
+                },
+            ),
+        ],
+        Ok(Counts {
+            ticks: 612,
+            runs: 1,
+            pieces: 1,
+            good: 1,
+            ..NOTHING
+        }),
+    );
+    Ok(())
+}
+
+#[test]
+fn a_piece_of_a_torn_burst_is_handed_out_too(rt: HostRuntime) -> Result<(), Fail> {
+    let frame = Frame::of_offer(&[0x5A; 60])?;
+    let mut text = PieceText::new();
+    put_piece(&mut text, 2, &mut Scrambler::new(), &frame, true)?;
+    let view = PieceView {
+        lead: 2,
+        groups: 140,
+        closer: Closer::R,
+        kind: Kind::Good,
+        frame: frame.octets(),
+    };
+    check_parts(
+        &rt,
+        &[
+            FRONT,
+            text.as_slice(),
+            b"\x18\x18\x04\x22\x00\x00\x00\x00\x21",
+        ],
+        &[
+            (156, Item::Piece { start: 16, view }),
+            (
+                164,
+                Item::Torn {
+                    start: 16,
+                    end: 612,
+                    symbols: 149,
+                    blur: 0,
+                },
+            ),
+        ],
+        Ok(Counts {
+            ticks: 612,
+            torn: 1,
+            pieces: 1,
+            good: 1,
+            ..NOTHING
+        }),
+    );
+    Ok(())
+}
+
+#[test]
+fn torn_bursts_are_read_with_their_blur(rt: HostRuntime) {
+    check(
+        &rt,
+        b"T1SC\x01\x02\x08\x08\x08\x08\x22\x00\x00\x01\x03\x20\x00\x00\x00\x01\x22\x00\x00\x00\x02\x21",
+        &[
+            (
+                14,
+                Item::Torn {
+                    start: 0,
+                    end: 275,
+                    symbols: 4,
+                    blur: 259,
+                },
+            ),
+            (
+                24,
+                Item::Torn {
+                    start: 276,
+                    end: 278,
+                    symbols: 0,
+                    blur: 2,
+                },
+            ),
+        ],
+        Ok(Counts {
+            ticks: 278,
+            torn: 2,
+            ..NOTHING
+        }),
+    );
+    let torn = (
+        11,
+        Item::Torn {
+            start: 0,
+            end: 5,
+            symbols: 1,
+            blur: 1,
+        },
+    );
+    for (octet, why) in [(0x18, Why::Place), (0x22, Why::Place), (0x05, Why::Group)] {
+        let mut octets = *b"T1SC\x01\x02\x08\x22\x00\x00\x00\x01\x00";
+        octets[12] = octet;
+        check(&rt, &octets, &[torn], refused(12, why));
     }
+}
+
+/// What a decoder refuses behind a header, of octets each row of which stands so many times.
+fn refusal(rows: &[(&[u8], u16)]) -> Option<Refusal> {
+    let mut decoder = Decoder::new();
+    for (row, times) in [(b"T1SC\x01\x02".as_slice(), 1)].iter().chain(rows.iter()) {
+        for _ in 0..*times {
+            for octet in row.iter() {
+                match decoder.step(*octet) {
+                    Next::More(next) => decoder = next,
+                    Next::Held(held) => decoder = held.release(),
+                    Next::Refused(refusal) => return Some(refusal),
+                }
+            }
+        }
+    }
+    None
+}
+
+#[test]
+fn a_burst_is_too_long_at_its_three_counts(rt: HostRuntime) {
+    let why = Why::BurstLong;
+    assert_eq!(rt;
+        refusal(&[(b"\x18", 4097)]),
+        Some(Refusal { offset: 4102, why })
+    );
+    let nibbles: [(&[u8], u16); 2] = [(b"\x18\x18\x04\x04", 1), (b"\x1E", 3057)];
+    assert_eq!(rt; refusal(&nibbles), Some(Refusal { offset: 3066, why }));
+    let piece = b"\x18\x18\x04\x04\x1E\x1E\x1E\x1E\x1E\x1E\x1E\x1E\x1E\x0D\x11";
+    let pieces: [(&[u8], u16); 2] = [(piece, 4096), (b"\x18\x18\x04", 1)];
+    assert_eq!(rt; refusal(&pieces), Some(Refusal { offset: 61448, why }));
 }

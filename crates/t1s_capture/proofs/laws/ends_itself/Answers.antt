@@ -1,4 +1,4 @@
-use Rattle.t1s_capture.proofs.Readings.{nothing_more}
+use Rattle.t1s_capture.proofs.Whole.{nothing_more}
 use Rattle.t1s_capture.proofs.laws.ends_itself.Goals as goal
 
 pub returns : goal.returns

@@ -1,4 +1,4 @@
-use Rattle.t1s_capture.proofs.Readings.{readings_agree}
+use Rattle.t1s_capture.proofs.Whole.{readings_agree}
 use Rattle.t1s_capture.proofs.laws.one_reading.Goals as goal
 
 pub returns : goal.returns

@@ -1,0 +1,154 @@
+-- What octets that begin a capture are made of, with one octet more.
+use Rattle.std.proofs.Common.{◌≡◌, ℕ, ◌+◌, ◌*◌, Bool, true, false, List, [], ◌∷◌, ◌++◌, length, Result, Ok, Err, Option, None, Some, nat_lt, if◌then◌else◌}
+use Rattle.std.specs.Prelude.{◌==◌, ◌&&◌, slice_index}
+use Rattle.t1s_symbols.specs.declared.Symbol.{Symbol}
+use Rattle.t1s_symbols.specs.declared.Symbol.TheVariants.{Nibble, J, K, T, R, H, N, S}
+use Rattle.t1s_scramble.specs.Scrambled.{descrambler_after}
+use Rattle.t1s_grammar.specs.Burst.{Piece, pieces_symbols}
+use Rattle.t1s_grammar.specs.Prefixes.{Beginning, phase_of, whole_pieces, last_lead, last_nibbles}
+use Rattle.t1s_grammar.specs.Steps.{place_step, ends_burst}
+use Rattle.t1s_grammar.specs.declared.place.Phase.{Phase}
+use Rattle.t1s_grammar.specs.declared.place.PlaceFault.{PlaceFault}
+use Rattle.t1s_grammar.specs.declared.place.PlaceFault.TheVariants.{NotHere, TooLong as OneTooMany}
+use Rattle.t1s_pcs_rx.specs.Views.{view_of}
+use Rattle.t1s_capture.specs.declared.items.Why.{Why}
+use Rattle.t1s_capture.specs.declared.items.Why.TheVariants.{Magic as BadMagic, Version as BadVersion, NodeByte, CountZero, GapTwice, Group, Place, BurstLong, AfterEnd}
+use Rattle.t1s_capture.specs.declared.stage.CountSoFar.{CountSoFar}
+use Rattle.t1s_capture.specs.declared.stage.CountSoFar.TheVariants.{Nothing, One, Two, Three}
+use Rattle.t1s_capture.specs.declared.stage.Mark.{Mark}
+use Rattle.t1s_capture.specs.declared.stage.Mark.TheVariants.{Gap as GapMark, End, Torn as TornMark, Known, Unknown}
+use Rattle.t1s_capture.specs.Captures.{CaptureItem, Gap, Burst, Torn, magic, no_symbols, symbol_count, ticks_of}
+use Rattle.t1s_capture.specs.Pieces.{history_behind, pieces_nibbles}
+use Rattle.t1s_capture.specs.Fronts.{Tail, in_gap, in_burst, in_blur, after_torn, ended, Front, in_magic, at_version, at_node, behind}
+use Rattle.t1s_capture.specs.Handed.{Handed, PieceItem, TornItem, burst_item}
+use Rattle.t1s_capture.specs.Advance.{mark, count_of}
+use Rattle.t1s_capture.specs.Stands.{ends_with_gap, needs_blur}
+use Rattle.t1s_capture.proofs.Growth.{grown, piece_of}
+
+abbrev pub Grew : Type 0
+Grew = Result Front Why
+
+abbrev pub grew : Front → Grew
+grew f = Ok f
+
+abbrev pub fails : Why → Grew
+fails why = Err why
+
+abbrev pub grow_magic : ℕ → ℕ → Grew
+grow_magic n o =
+    if o == slice_index magic n then (if n == 3 then grew at_version else grew (in_magic (n + 1))) else fails BadMagic
+
+abbrev pub grow_version : ℕ → Grew
+grow_version o = if o == 1 then grew at_node else fails BadVersion
+
+abbrev pub grow_node : ℕ → Grew
+grow_node o = if nat_lt o 16 then grew (behind o [] (in_burst no_symbols)) else fails NodeByte
+
+abbrev pub end_gap : ℕ → List CaptureItem → ℕ → Grew
+end_gap node items n =
+    if n == 0 then fails CountZero else grew (behind node (items ++ Gap n ∷ []) (in_burst no_symbols))
+
+abbrev pub grow_gap : ℕ → List CaptureItem → CountSoFar → ℕ → Grew
+grow_gap node items Nothing d = grew (behind node items (in_gap (One d)))
+grow_gap node items (One a) d = grew (behind node items (in_gap (Two a d)))
+grow_gap node items (Two a b) d = grew (behind node items (in_gap (Three a b d)))
+grow_gap node items (Three a b c) d = end_gap node items (count_of a b c d)
+
+abbrev pub end_blur : ℕ → List CaptureItem → Beginning → ℕ → Grew
+end_blur node items b n =
+    if needs_blur b && (n == 0) then fails CountZero else grew (behind node (items ++ Torn b n ∷ []) after_torn)
+
+abbrev pub grow_blur : ℕ → List CaptureItem → Beginning → CountSoFar → ℕ → Grew
+grow_blur node items b Nothing d = grew (behind node items (in_blur b (One d)))
+grow_blur node items b (One a) d = grew (behind node items (in_blur b (Two a d)))
+grow_blur node items b (Two a c) d = grew (behind node items (in_blur b (Three a c d)))
+grow_blur node items b (Three a c e) d = end_blur node items b (count_of a c e d)
+
+abbrev pub grow_symbol : ℕ → List CaptureItem → Beginning → Symbol → Result Phase PlaceFault → Grew
+grow_symbol node items b s (Ok q) = grew (behind node items (in_burst (grown b s)))
+grow_symbol node items b s (Err OneTooMany) = fails BurstLong
+grow_symbol node items b s (Err NotHere) = fails Place
+
+abbrev pub grow_burst : Mark → ℕ → List CaptureItem → Beginning → Grew
+grow_burst GapMark node items b =
+    if ends_burst (phase_of b) then grew (behind node (items ++ Burst b ∷ []) (in_gap Nothing))
+    else (if symbol_count b == 0 then (if ends_with_gap items then fails GapTwice else grew (behind node items (in_gap Nothing)))
+    else fails Place)
+grow_burst End node items b =
+    if ends_burst (phase_of b) then grew (behind node (items ++ Burst b ∷ []) ended)
+    else (if symbol_count b == 0 then grew (behind node items ended) else fails Place)
+grow_burst TornMark node items b = grew (behind node items (in_blur b Nothing))
+grow_burst (Known s) node items b = grow_symbol node items b s (place_step (phase_of b) s)
+grow_burst Unknown node items b = fails Group
+
+abbrev pub grow_torn : Mark → ℕ → List CaptureItem → Grew
+grow_torn GapMark node items = grew (behind node items (in_gap Nothing))
+grow_torn End node items = grew (behind node items ended)
+grow_torn TornMark node items = fails Place
+grow_torn (Known s) node items = fails Place
+grow_torn Unknown node items = fails Group
+
+abbrev pub grow_tail : Tail → ℕ → List CaptureItem → ℕ → Grew
+grow_tail (in_gap count) node items o = grow_gap node items count o
+grow_tail (in_burst b) node items o = grow_burst (mark o) node items b
+grow_tail (in_blur b count) node items o = grow_blur node items b count o
+grow_tail after_torn node items o = grow_torn (mark o) node items
+grow_tail ended node items o = fails AfterEnd
+
+abbrev pub grow : Front → ℕ → Grew
+grow (in_magic n) o = grow_magic n o
+grow at_version o = grow_version o
+grow at_node o = grow_node o
+grow (behind node items tail) o = grow_tail tail node items o
+
+-- ---- the item that is handed out at the octet, where there is one
+
+-- the item of a piece that this closer ends
+abbrev pub piece_item : List CaptureItem → Beginning → Symbol → Handed
+piece_item items b s =
+    PieceItem (ticks_of items + 4 * length (pieces_symbols (whole_pieces b)))
+    (view_of (descrambler_after (history_behind items) (pieces_nibbles (whole_pieces b))) (piece_of (last_lead b) (last_nibbles b) s))
+
+abbrev pub closer_item : List CaptureItem → Beginning → Symbol → Option Handed
+closer_item items b R = Some (piece_item items b R)
+closer_item items b K = Some (piece_item items b K)
+closer_item items b S = Some (piece_item items b S)
+closer_item items b _ = None
+
+abbrev pub symbol_item : List CaptureItem → Beginning → Symbol → Result Phase PlaceFault → Option Handed
+symbol_item items b s (Ok q) = closer_item items b s
+symbol_item items b s (Err e) = None
+
+abbrev pub whole_burst_item : List CaptureItem → Beginning → Option Handed
+whole_burst_item items b = if ends_burst (phase_of b) then Some (burst_item (ticks_of items) b) else None
+
+abbrev pub burst_item_at : Mark → List CaptureItem → Beginning → Option Handed
+burst_item_at GapMark items b = whole_burst_item items b
+burst_item_at End items b = whole_burst_item items b
+burst_item_at TornMark items b = None
+burst_item_at (Known s) items b = symbol_item items b s (place_step (phase_of b) s)
+burst_item_at Unknown items b = None
+
+abbrev pub torn_item : List CaptureItem → Beginning → ℕ → Option Handed
+torn_item items b n =
+    if needs_blur b && (n == 0) then None
+    else Some (TornItem (ticks_of items) (ticks_of items + (4 * symbol_count b + n)) (symbol_count b) n)
+
+abbrev pub blur_item_at : CountSoFar → List CaptureItem → Beginning → ℕ → Option Handed
+blur_item_at Nothing items b d = None
+blur_item_at (One a) items b d = None
+blur_item_at (Two a c) items b d = None
+blur_item_at (Three a c e) items b d = torn_item items b (count_of a c e d)
+
+abbrev pub tail_item_at : Tail → List CaptureItem → ℕ → Option Handed
+tail_item_at (in_gap count) items o = None
+tail_item_at (in_burst b) items o = burst_item_at (mark o) items b
+tail_item_at (in_blur b count) items o = blur_item_at count items b o
+tail_item_at after_torn items o = None
+tail_item_at ended items o = None
+
+abbrev pub item_at : Front → ℕ → Option Handed
+item_at (in_magic n) o = None
+item_at at_version o = None
+item_at at_node o = None
+item_at (behind node items tail) o = tail_item_at tail items o

@@ -1,0 +1,437 @@
+-- The items are handed out exactly at their octets.
+use Rattle.std.proofs.Common.{◌≡◌, ◌≢◌, ℕ, zero, suc, ◌+◌, ◌*◌, ◌^◌, ◌<◌, ◌≤◌, ◌⊎◌, Bool, true, false, List, [], ◌∷◌, ◌++◌, length, Result, Ok, Err, Option, None, Some, refl, sym, ap, subst, ◌∙◌, inl, inr, arith, nat_lt, if◌then◌else◌}
+use Rattle.std.specs.Prelude.{◌==◌, ◌&&◌, slice_index}
+use Rattle.std.proofs.lemmas.Grind.{common_steps}
+use Rattle.t1s_symbols.specs.declared.Symbol.{Symbol}
+use Rattle.t1s_symbols.specs.declared.Symbol.TheVariants.{Nibble, J, K, T, R, H, N, S}
+use Rattle.t1s_scramble.specs.Scrambled.{descrambler_after}
+use Rattle.t1s_grammar.specs.Burst.{Piece, pieces_symbols}
+use Rattle.t1s_grammar.specs.Prefixes.{Beginning, beginning_symbols, phase_of, beacon, between, opened, within, ended as ended_piece}
+use Rattle.t1s_grammar.specs.Steps.{place_step, ends_burst}
+use Rattle.t1s_grammar.specs.declared.place.Phase.{Phase}
+use Rattle.t1s_grammar.specs.declared.place.PlaceFault.{PlaceFault}
+use Rattle.t1s_grammar.specs.declared.place.PlaceFault.TheVariants.{NotHere, TooLong as OneTooMany}
+use Rattle.t1s_grammar.proofs.Judged.{taken as place_taken, refused as place_refused}
+use Rattle.t1s_grammar.proofs.Beginnings.{refused-taken}
+use Rattle.t1s_pcs_rx.specs.Views.{View, view_of}
+use Rattle.t1s_capture.specs.declared.items.Why.{Why}
+use Rattle.t1s_capture.specs.declared.items.Why.TheVariants.{Magic as BadMagic, Version as BadVersion, NodeByte, CountZero, GapTwice, Group, Place, BurstLong, AfterEnd}
+use Rattle.t1s_capture.specs.declared.stage.CountSoFar.{CountSoFar}
+use Rattle.t1s_capture.specs.declared.stage.CountSoFar.TheVariants.{Nothing, One, Two, Three}
+use Rattle.t1s_capture.specs.declared.stage.Mark.{Mark}
+use Rattle.t1s_capture.specs.declared.stage.Mark.TheVariants.{Gap as GapMark, End, Torn as TornMark, Known, Unknown}
+use Rattle.t1s_capture.specs.Captures.{CaptureItem, Gap, Burst, Torn, magic, no_symbols, symbol_count, ticks_of}
+use Rattle.t1s_capture.specs.Pieces.{history_behind, pieces_nibbles}
+use Rattle.t1s_capture.specs.Fronts.{Tail, in_gap, in_burst, in_blur, after_torn, ended, Front, in_magic, at_version, at_node, behind, AreMadeOf}
+use Rattle.t1s_capture.specs.Handed.{Handed, PieceItem, BeaconItem, RunItem, BareItem, TornItem, burst_item, IsPieceOctet, IsBurstOctet, IsTornOctet, IsItemOctet}
+use Rattle.t1s_capture.specs.Advance.{mark, count_of}
+use Rattle.t1s_capture.specs.Stands.{ends_with_gap, needs_blur}
+use Rattle.t1s_capture.proofs.Growth.{grown, piece_of}
+use Rattle.t1s_capture.proofs.Texts.{last_of, no_last}
+use Rattle.t1s_capture.proofs.Marks.{IsMarked, marked}
+use Rattle.t1s_capture.proofs.Grow.{Grew, grew, fails, grow, grow_magic, grow_version, grow_node, grow_gap, grow_blur, grow_burst, grow_symbol, grow_torn, end_gap, end_blur, item_at, piece_item, closer_item, symbol_item, burst_item_at, whole_burst_item, blur_item_at, torn_item}
+use Rattle.t1s_capture.proofs.Sound.{same_front, no_front, passes, unstopped, is_burst, burst_ends, begun}
+use Rattle.t1s_capture.proofs.Whole.{made_once, made_more, grown_from}
+
+-- ---- an item that is handed out is at its octet
+
+same_item : (x y : Handed) → ◌≡◌ {A = Option Handed} (Some x) (Some y) → x ≡ y
+same_item x y e = cc
+
+no_item : (y : Handed) → ◌≡◌ {A = Option Handed} None (Some y) → ⊥
+no_item y e = cc
+
+item_if : (b : Bool) (x y : Handed) → ◌≡◌ {A = Option Handed} (if b then Some x else None) (Some y) → (b ≡ true) × (x ≡ y)
+item_if true x y e = (refl, same_item x y e)
+item_if false x y e = absurd (no_item y e)
+
+item_unless : (b : Bool) (x y : Handed) → ◌≡◌ {A = Option Handed} (if b then None else Some x) (Some y) → (b ≡ false) × (x ≡ y)
+item_unless true x y e = absurd (no_item y e)
+item_unless false x y e = (refl, same_item x y e)
+
+burst_octet : (octets : List ℕ) (o start : ℕ) (b : Beginning) → IsBurstOctet octets o (burst_item start b) → IsItemOctet octets o (burst_item start b)
+burst_octet octets o start (beacon n) h = h
+burst_octet octets o start (between [] lead) h = h
+burst_octet octets o start (between (p ∷ ps) lead) h = h
+burst_octet octets o start (opened ps lead) h = h
+burst_octet octets o start (within ps lead ns) h = h
+burst_octet octets o start (ended_piece ps lead ns) h = h
+
+not_taken : (q : Phase) → place_refused NotHere ≡ place_taken q → ⊥
+not_taken q e = refused-taken NotHere q e
+
+module _ (octets : List ℕ) (o : ℕ) (node : ℕ) (items : List CaptureItem) (b : Beginning) (m : AreMadeOf octets (behind node items (in_burst b))) (short : length octets < 2 ^ 30) (low : o < 256) where
+  whole_here : (item : Handed) → (o ≡ 0x20) ⊎ (o ≡ 0x21) → whole_burst_item items b ≡ Some item → IsItemOctet octets o item
+  whole_here item next e =
+      let t = item_if (ends_burst (phase_of b)) (burst_item (ticks_of items) b) item e in
+      subst (λ (i : Handed). IsItemOctet octets o i) t.1
+      (burst_octet octets o (ticks_of items) b (record {
+        node = node;
+        items = items;
+        symbols = b;
+        within_limit = short;
+        made = m;
+        burst = is_burst b (begun items b m.in_range.1) t.0;
+        next = next;
+        is = refl;
+      }))
+
+piece_here : (octets : List ℕ) (o node : ℕ) (items : List CaptureItem) (ps : List Piece) (lead : ℕ) (ns : List ℕ) (s : Symbol) → length octets < 2 ^ 30 →
+    AreMadeOf (octets ++ o ∷ []) (behind node items (in_burst (between (ps ++ piece_of lead ns s ∷ []) 0))) →
+    IsItemOctet octets o (piece_item items (ended_piece ps lead ns) s)
+piece_here octets o node items ps lead ns s short m = record {
+  node = node;
+  items = items;
+  pieces = ps;
+  piece = piece_of lead ns s;
+  within_limit = short;
+  made = m;
+  starts = refl;
+  shows = refl;
+}
+
+-- a closer that is taken stands behind T
+closer_here : (octets : List ℕ) (o node : ℕ) (items : List CaptureItem) (b : Beginning) (s : Symbol) (q : Phase) (item : Handed) → length octets < 2 ^ 30 →
+    place_step (phase_of b) s ≡ place_taken q → AreMadeOf (octets ++ o ∷ []) (behind node items (in_burst (grown b s))) → closer_item items b s ≡ Some item →
+    IsItemOctet octets o item
+closer_here octets o node items b (Nibble n) q item short p m e = absurd (no_item item e)
+closer_here octets o node items b J q item short p m e = absurd (no_item item e)
+closer_here octets o node items b T q item short p m e = absurd (no_item item e)
+closer_here octets o node items b H q item short p m e = absurd (no_item item e)
+closer_here octets o node items b N q item short p m e = absurd (no_item item e)
+closer_here octets o node items (beacon k) R q item short p m e = absurd (not_taken q p)
+closer_here octets o node items (between ps lead) R q item short p m e = absurd (not_taken q p)
+closer_here octets o node items (opened ps lead) R q item short p m e = absurd (not_taken q p)
+closer_here octets o node items (within ps lead ns) R q item short p m e = absurd (not_taken q p)
+closer_here octets o node items (ended_piece ps lead ns) R q item short p m e =
+    subst (λ (i : Handed). IsItemOctet octets o i) (same_item (piece_item items (ended_piece ps lead ns) R) item e) (piece_here octets o node items ps lead ns R short m)
+closer_here octets o node items (beacon k) K q item short p m e = absurd (not_taken q p)
+closer_here octets o node items (between ps lead) K q item short p m e = absurd (not_taken q p)
+closer_here octets o node items (opened ps lead) K q item short p m e = absurd (not_taken q p)
+closer_here octets o node items (within ps lead ns) K q item short p m e = absurd (not_taken q p)
+closer_here octets o node items (ended_piece ps lead ns) K q item short p m e =
+    subst (λ (i : Handed). IsItemOctet octets o i) (same_item (piece_item items (ended_piece ps lead ns) K) item e) (piece_here octets o node items ps lead ns K short m)
+closer_here octets o node items (beacon k) S q item short p m e = absurd (not_taken q p)
+closer_here octets o node items (between ps lead) S q item short p m e = absurd (not_taken q p)
+closer_here octets o node items (opened ps lead) S q item short p m e = absurd (not_taken q p)
+closer_here octets o node items (within ps lead ns) S q item short p m e = absurd (not_taken q p)
+closer_here octets o node items (ended_piece ps lead ns) S q item short p m e =
+    subst (λ (i : Handed). IsItemOctet octets o i) (same_item (piece_item items (ended_piece ps lead ns) S) item e) (piece_here octets o node items ps lead ns S short m)
+
+symbol_here : (octets : List ℕ) (o node : ℕ) (items : List CaptureItem) (b : Beginning) (s : Symbol) (r : Result Phase PlaceFault) (g : Front) (item : Handed) → length octets < 2 ^ 30 →
+    place_step (phase_of b) s ≡ r → grow_symbol node items b s r ≡ grew g → AreMadeOf (octets ++ o ∷ []) g → symbol_item items b s r ≡ Some item →
+    IsItemOctet octets o item
+symbol_here octets o node items b s (Ok q) g item short p e m i =
+    closer_here octets o node items b s q item short p
+    (subst (λ (x : Front). AreMadeOf (octets ++ o ∷ []) x) (sym (same_front (behind node items (in_burst (grown b s))) g e)) m) i
+symbol_here octets o node items b s (Err x) g item short p e m i = absurd (no_item item i)
+
+burst_here : (octets : List ℕ) (o node : ℕ) (items : List CaptureItem) (b : Beginning) (k : Mark) (g : Front) (item : Handed) → length octets < 2 ^ 30 → o < 256 →
+    AreMadeOf octets (behind node items (in_burst b)) → IsMarked o k → grow_burst k node items b ≡ grew g → AreMadeOf (octets ++ o ∷ []) g →
+    burst_item_at k items b ≡ Some item → IsItemOctet octets o item
+burst_here octets o node items b GapMark g item short low m is e n i = whole_here octets o node items b m short low item (inl is) i
+burst_here octets o node items b End g item short low m is e n i = whole_here octets o node items b m short low item (inr is) i
+burst_here octets o node items b TornMark g item short low m is e n i = absurd (no_item item i)
+burst_here octets o node items b (Known s) g item short low m is e n i =
+    symbol_here octets o node items b s (place_step (phase_of b) s) g item short refl e n i
+burst_here octets o node items b Unknown g item short low m is e n i = absurd (no_item item i)
+
+blur_here : (octets : List ℕ) (o node : ℕ) (items : List CaptureItem) (b : Beginning) (count : CountSoFar) (g : Front) (item : Handed) → length octets < 2 ^ 30 →
+    grow_blur node items b count o ≡ grew g → AreMadeOf (octets ++ o ∷ []) g → blur_item_at count items b o ≡ Some item → IsItemOctet octets o item
+blur_here octets o node items b Nothing g item short e n i = absurd (no_item item i)
+blur_here octets o node items b (One a) g item short e n i = absurd (no_item item i)
+blur_here octets o node items b (Two a c) g item short e n i = absurd (no_item item i)
+blur_here octets o node items b (Three a c d) g item short e n i =
+    let count : ℕ = count_of a c d o in
+    let t = item_unless (needs_blur b && (count_of a c d o == 0))
+    (TornItem (ticks_of items) (ticks_of items + (4 * symbol_count b + count_of a c d o)) (symbol_count b) (count_of a c d o)) item i in
+    let u = unstopped (needs_blur b && (count_of a c d o == 0)) (grew (behind node (items ++ Torn b (count_of a c d o) ∷ []) after_torn)) CountZero g e in
+    subst (λ (x : Handed). IsItemOctet octets o x) t.1
+    (record {
+      node = node;
+      items = items;
+      begun = b;
+      within_limit = short;
+      made = subst (λ (x : Front). AreMadeOf (octets ++ o ∷ []) x) (sym (same_front (behind node (items ++ Torn b (count_of a c d o) ∷ []) after_torn) g u.1)) n;
+      starts = refl;
+      ends = refl;
+      counted = refl;
+    })
+
+pub handed_here : (octets : List ℕ) (f g : Front) (o : ℕ) (item : Handed) → length octets < 2 ^ 30 → o < 256 → AreMadeOf octets f → grow f o ≡ grew g →
+    item_at f o ≡ Some item → IsItemOctet octets o item
+handed_here octets (in_magic n) g o item short low m e i = absurd (no_item item i)
+handed_here octets at_version g o item short low m e i = absurd (no_item item i)
+handed_here octets at_node g o item short low m e i = absurd (no_item item i)
+handed_here octets (behind node items (in_gap count)) g o item short low m e i = absurd (no_item item i)
+handed_here octets (behind node items (in_burst b)) g o item short low m e i =
+    burst_here octets o node items b (mark o) g item short low m (marked o) e (made_more octets o (behind node items (in_burst b)) g low m e) i
+handed_here octets (behind node items (in_blur b count)) g o item short low m e i =
+    blur_here octets o node items b count g item short e (made_more octets o (behind node items (in_blur b count)) g low m e) i
+handed_here octets (behind node items after_torn) g o item short low m e i = absurd (no_item item i)
+handed_here octets (behind node items ended) g o item short low m e i = absurd (no_item item i)
+
+-- ---- an item at its octet is handed out
+
+-- the item is handed out there
+pub record Hands (f : Front) (o : ℕ) (item : Handed) : Type 0 where
+  pub grown_to : Front
+  pub grows : grow f o ≡ grew grown_to
+  pub hands : item_at f o ≡ Some item
+
+at_gap : (node : ℕ) (items : List CaptureItem) (b : Beginning) → ends_burst (phase_of b) ≡ true →
+    Hands (behind node items (in_burst b)) 0x20 (burst_item (ticks_of items) b)
+at_gap node items b e = record {
+  grown_to = behind node (items ++ Burst b ∷ []) (in_gap Nothing);
+  grows = rw e refl;
+  hands = rw e refl;
+}
+
+at_end : (node : ℕ) (items : List CaptureItem) (b : Beginning) → ends_burst (phase_of b) ≡ true →
+    Hands (behind node items (in_burst b)) 0x21 (burst_item (ticks_of items) b)
+at_end node items b e = record {
+  grown_to = behind node (items ++ Burst b ∷ []) ended;
+  grows = rw e refl;
+  hands = rw e refl;
+}
+
+burst_handed : (octets : List ℕ) (f : Front) (o : ℕ) (item : Handed) → AreMadeOf octets f → IsBurstOctet octets o item → Hands f o item
+burst_handed octets f o item m h =
+    let e : behind h.node h.items (in_burst h.symbols) ≡ f = made_once octets (behind h.node h.items (in_burst h.symbols)) f h.made m in
+    let whole : ends_burst (phase_of h.symbols) ≡ true = burst_ends h.symbols (begun h.items h.symbols h.made.in_range.1) h.burst in
+    subst (λ (x : Front). Hands x o item) e (subst (λ (i : Handed). Hands (behind h.node h.items (in_burst h.symbols)) o i) (sym h.is)
+    (by_next h.next whole))
+  where
+    by_next : (o ≡ 0x20) ⊎ (o ≡ 0x21) → ends_burst (phase_of h.symbols) ≡ true → Hands (behind h.node h.items (in_burst h.symbols)) o (burst_item (ticks_of h.items) h.symbols)
+    by_next (inl is) w = subst (λ (x : ℕ). Hands (behind h.node h.items (in_burst h.symbols)) x (burst_item (ticks_of h.items) h.symbols)) (sym is) (at_gap h.node h.items h.symbols w)
+    by_next (inr is) w = subst (λ (x : ℕ). Hands (behind h.node h.items (in_burst h.symbols)) x (burst_item (ticks_of h.items) h.symbols)) (sym is) (at_end h.node h.items h.symbols w)
+
+-- the item of the piece that has ended last
+abbrev pub last_piece_item : List CaptureItem → List Piece → Piece → Handed
+last_piece_item items ps p =
+    PieceItem (ticks_of items + 4 * length (pieces_symbols ps)) (view_of (descrambler_after (history_behind items) (pieces_nibbles ps)) p)
+
+abbrev pub PieceGrown : List CaptureItem → List Piece → Piece → Option Handed → Type 0
+PieceGrown items ps p item = item ≡ Some (last_piece_item items ps p)
+
+abbrev pub piece_front : ℕ → List CaptureItem → List Piece → Piece → Front
+piece_front node items ps p = behind node items (in_burst (between (ps ++ p ∷ []) 0))
+
+not_empty : (node node' : ℕ) (items items' : List CaptureItem) (ps : List Piece) (p : Piece) → grew (behind node items (in_burst no_symbols)) ≡ grew (piece_front node' items' ps p) → ⊥
+not_empty node node' items items' ps p e = let k : ps ++ p ∷ [] ≡ [] = cc in no_last ps p k
+
+closer_grown : (node node' : ℕ) (items items' : List CaptureItem) (qs ps : List Piece) (lead : ℕ) (ns : List ℕ) (s : Symbol) (p : Piece) →
+    grew (behind node items (in_burst (between (qs ++ piece_of lead ns s ∷ []) 0))) ≡ grew (piece_front node' items' ps p) →
+    PieceGrown items' ps p (Some (piece_item items (ended_piece qs lead ns) s))
+closer_grown node node' items items' qs ps lead ns s p e =
+    let same : items ≡ items' = cc in
+    let lists : qs ++ piece_of lead ns s ∷ [] ≡ ps ++ p ∷ [] = cc in
+    let t = last_of qs ps (piece_of lead ns s) p lists in
+    let a = t.0 in
+    let b = t.1 in
+    ap (λ (xs : List CaptureItem). Some (last_piece_item xs qs (piece_of lead ns s))) same
+    ∙ ap (λ (xs : List Piece). Some (last_piece_item items' xs (piece_of lead ns s))) a
+    ∙ ap (λ (x : Piece). Some (last_piece_item items' ps x)) b
+
+symbol_grown : (node node' : ℕ) (items items' : List CaptureItem) (b : Beginning) (s : Symbol) (q : Phase) (ps : List Piece) (p : Piece) → place_step (phase_of b) s ≡ place_taken q →
+    grew (behind node items (in_burst (grown b s))) ≡ grew (piece_front node' items' ps p) → PieceGrown items' ps p (closer_item items b s)
+symbol_grown node node' items items' (beacon k) s q ps p t e = cc
+symbol_grown node node' items items' (between qs lead) J q ps p t e = let k : lead + 1 ≡ 0 = cc in absurd (omega arith)
+symbol_grown node node' items items' (between qs lead) H q ps p t e = cc
+symbol_grown node node' items items' (between qs lead) (Nibble n) q ps p t e = cc
+symbol_grown node node' items items' (between qs lead) K q ps p t e = cc
+symbol_grown node node' items items' (between qs lead) T q ps p t e = cc
+symbol_grown node node' items items' (between qs lead) R q ps p t e = cc
+symbol_grown node node' items items' (between qs lead) N q ps p t e = cc
+symbol_grown node node' items items' (between qs lead) S q ps p t e = cc
+symbol_grown node node' items items' (opened qs lead) s q ps p t e = cc
+symbol_grown node node' items items' (within qs lead ns) (Nibble n) q ps p t e = cc
+symbol_grown node node' items items' (within qs lead ns) J q ps p t e = cc
+symbol_grown node node' items items' (within qs lead ns) K q ps p t e = cc
+symbol_grown node node' items items' (within qs lead ns) T q ps p t e = cc
+symbol_grown node node' items items' (within qs lead ns) R q ps p t e = cc
+symbol_grown node node' items items' (within qs lead ns) H q ps p t e = cc
+symbol_grown node node' items items' (within qs lead ns) N q ps p t e = cc
+symbol_grown node node' items items' (within qs lead ns) S q ps p t e = cc
+symbol_grown node node' items items' (ended_piece qs lead ns) R q ps p t e = closer_grown node node' items items' qs ps lead ns R p e
+symbol_grown node node' items items' (ended_piece qs lead ns) K q ps p t e = closer_grown node node' items items' qs ps lead ns K p e
+symbol_grown node node' items items' (ended_piece qs lead ns) S q ps p t e = closer_grown node node' items items' qs ps lead ns S p e
+symbol_grown node node' items items' (ended_piece qs lead ns) (Nibble n) q ps p t e = absurd (not_taken q t)
+symbol_grown node node' items items' (ended_piece qs lead ns) J q ps p t e = absurd (not_taken q t)
+symbol_grown node node' items items' (ended_piece qs lead ns) T q ps p t e = absurd (not_taken q t)
+symbol_grown node node' items items' (ended_piece qs lead ns) H q ps p t e = absurd (not_taken q t)
+symbol_grown node node' items items' (ended_piece qs lead ns) N q ps p t e = absurd (not_taken q t)
+
+judged_grown : (node node' : ℕ) (items items' : List CaptureItem) (b : Beginning) (s : Symbol) (r : Result Phase PlaceFault) (ps : List Piece) (p : Piece) → place_step (phase_of b) s ≡ r →
+    grow_symbol node items b s r ≡ grew (piece_front node' items' ps p) → PieceGrown items' ps p (symbol_item items b s r)
+judged_grown node node' items items' b s (Ok q) ps p t e = symbol_grown node node' items items' b s q ps p t e
+judged_grown node node' items items' b s (Err OneTooMany) ps p t e = absurd (no_front BurstLong (piece_front node' items' ps p) e)
+judged_grown node node' items items' b s (Err NotHere) ps p t e = absurd (no_front Place (piece_front node' items' ps p) e)
+
+-- two ways that a test may go, of which neither leads there
+neither : (b : Bool) (x y g : Grew) → (x ≡ g → ⊥) → (y ≡ g → ⊥) → (if b then x else y) ≡ g → ⊥
+neither true x y g h k e = h e
+neither false x y g h k e = k e
+
+gap_mark_grown : (node node' : ℕ) (items items' : List CaptureItem) (b : Beginning) (tail : Tail) → grow_burst GapMark node items b ≡ grew (behind node' items' tail) →
+    tail ≢ in_gap Nothing → ⊥
+gap_mark_grown node node' items items' b tail e other =
+    neither (ends_burst (phase_of b)) (grew (behind node (items ++ Burst b ∷ []) (in_gap Nothing)))
+    (if symbol_count b == 0 then (if ends_with_gap items then fails GapTwice else grew (behind node items (in_gap Nothing))) else fails Place) (grew (behind node' items' tail))
+    (λ k. other cc)
+    (λ k. neither (symbol_count b == 0) (if ends_with_gap items then fails GapTwice else grew (behind node items (in_gap Nothing))) (fails Place) (grew (behind node' items' tail))
+    (λ j. neither (ends_with_gap items) (fails GapTwice) (grew (behind node items (in_gap Nothing))) (grew (behind node' items' tail)) (λ i. cc) (λ i. other cc) j)
+    (λ j. cc) k) e
+
+end_mark_grown : (node node' : ℕ) (items items' : List CaptureItem) (b : Beginning) (tail : Tail) → grow_burst End node items b ≡ grew (behind node' items' tail) →
+    tail ≢ ended → ⊥
+end_mark_grown node node' items items' b tail e other =
+    neither (ends_burst (phase_of b)) (grew (behind node (items ++ Burst b ∷ []) ended))
+    (if symbol_count b == 0 then grew (behind node items ended) else fails Place) (grew (behind node' items' tail))
+    (λ k. other cc)
+    (λ k. neither (symbol_count b == 0) (grew (behind node items ended)) (fails Place) (grew (behind node' items' tail)) (λ j. other cc) (λ j. cc) k) e
+
+burst_grown : (k : Mark) (node node' : ℕ) (items items' : List CaptureItem) (b : Beginning) (ps : List Piece) (p : Piece) →
+    grow_burst k node items b ≡ grew (piece_front node' items' ps p) → PieceGrown items' ps p (burst_item_at k items b)
+burst_grown GapMark node node' items items' b ps p e = absurd (gap_mark_grown node node' items items' b (in_burst (between (ps ++ p ∷ []) 0)) e (λ k. cc))
+burst_grown End node node' items items' b ps p e = absurd (end_mark_grown node node' items items' b (in_burst (between (ps ++ p ∷ []) 0)) e (λ k. cc))
+burst_grown TornMark node node' items items' b ps p e = cc
+burst_grown (Known s) node node' items items' b ps p e = judged_grown node node' items items' b s (place_step (phase_of b) s) ps p refl e
+burst_grown Unknown node node' items items' b ps p e = cc
+
+magic_grown : (n o node : ℕ) (items : List CaptureItem) (tail : Tail) → grow_magic n o ≡ grew (behind node items tail) → ⊥
+magic_grown n o node items tail e =
+    neither (o == slice_index magic n) (if n == 3 then grew at_version else grew (in_magic (n + 1))) (fails BadMagic) (grew (behind node items tail))
+    (λ k. neither (n == 3) (grew at_version) (grew (in_magic (n + 1))) (grew (behind node items tail)) (λ j. cc) (λ j. cc) k) (λ k. cc) e
+
+version_grown : (o node : ℕ) (items : List CaptureItem) (tail : Tail) → grow_version o ≡ grew (behind node items tail) → ⊥
+version_grown o node items tail e = neither (o == 1) (grew at_node) (fails BadVersion) (grew (behind node items tail)) (λ k. cc) (λ k. cc) e
+
+piece_grown : (f : Front) (o node : ℕ) (items : List CaptureItem) (ps : List Piece) (p : Piece) → grow f o ≡ grew (piece_front node items ps p) → PieceGrown items ps p (item_at f o)
+piece_grown (in_magic n) o node items ps p e = absurd (magic_grown n o node items (in_burst (between (ps ++ p ∷ []) 0)) e)
+piece_grown at_version o node items ps p e = absurd (version_grown o node items (in_burst (between (ps ++ p ∷ []) 0)) e)
+piece_grown at_node o node items ps p e =
+    absurd (neither (nat_lt o 16) (grew (behind o [] (in_burst no_symbols))) (fails NodeByte) (grew (piece_front node items ps p)) (not_empty o node [] items ps p) (λ k. cc) e)
+piece_grown (behind node' items' (in_gap Nothing)) o node items ps p e = cc
+piece_grown (behind node' items' (in_gap (One a))) o node items ps p e = cc
+piece_grown (behind node' items' (in_gap (Two a b))) o node items ps p e = cc
+piece_grown (behind node' items' (in_gap (Three a b c))) o node items ps p e =
+    absurd (neither (count_of a b c o == 0) (fails CountZero) (grew (behind node' (items' ++ Gap (count_of a b c o) ∷ []) (in_burst no_symbols))) (grew (piece_front node items ps p))
+    (λ k. cc) (not_empty node' node (items' ++ Gap (count_of a b c o) ∷ []) items ps p) e)
+piece_grown (behind node' items' (in_burst b)) o node items ps p e = burst_grown (mark o) node' node items' items b ps p e
+piece_grown (behind node' items' (in_blur b Nothing)) o node items ps p e = cc
+piece_grown (behind node' items' (in_blur b (One a))) o node items ps p e = cc
+piece_grown (behind node' items' (in_blur b (Two a c))) o node items ps p e = cc
+piece_grown (behind node' items' (in_blur b (Three a c d))) o node items ps p e =
+    absurd (neither (needs_blur b && (count_of a c d o == 0)) (fails CountZero) (grew (behind node' (items' ++ Torn b (count_of a c d o) ∷ []) after_torn)) (grew (piece_front node items ps p))
+    (λ k. cc) (λ k. cc) e)
+piece_grown (behind node' items' after_torn) o node items ps p e = by_mark (mark o) e
+  where
+    by_mark : (k : Mark) → grow_torn k node' items' ≡ grew (piece_front node items ps p) → PieceGrown items ps p None
+    by_mark GapMark e = cc
+    by_mark End e = cc
+    by_mark TornMark e = cc
+    by_mark (Known s) e = cc
+    by_mark Unknown e = cc
+piece_grown (behind node' items' ended) o node items ps p e = cc
+
+-- the item of a torn burst
+abbrev pub TornGrown : List CaptureItem → Beginning → ℕ → Option Handed → Type 0
+TornGrown items b n item = item ≡ Some (TornItem (ticks_of items) (ticks_of items + (4 * symbol_count b + n)) (symbol_count b) n)
+
+abbrev pub torn_front : ℕ → List CaptureItem → Beginning → ℕ → Front
+torn_front node items b n = behind node (items ++ Torn b n ∷ []) after_torn
+
+torn_burst_grown : (k : Mark) (node node' : ℕ) (items items' : List CaptureItem) (b c : Beginning) (n : ℕ) → grow_burst k node items b ≡ grew (torn_front node' items' c n) → ⊥
+torn_burst_grown GapMark node node' items items' b c n e = gap_mark_grown node node' items (items' ++ Torn c n ∷ []) b after_torn e (λ k. cc)
+torn_burst_grown End node node' items items' b c n e = end_mark_grown node node' items (items' ++ Torn c n ∷ []) b after_torn e (λ k. cc)
+torn_burst_grown TornMark node node' items items' b c n e = cc
+torn_burst_grown (Known s) node node' items items' b c n e = by_place (place_step (phase_of b) s) e
+  where
+    by_place : (r : Result Phase PlaceFault) → grow_symbol node items b s r ≡ grew (torn_front node' items' c n) → ⊥
+    by_place (Ok q) e = cc
+    by_place (Err OneTooMany) e = cc
+    by_place (Err NotHere) e = cc
+torn_burst_grown Unknown node node' items items' b c n e = cc
+
+blur_grown : (node node' : ℕ) (items items' : List CaptureItem) (b c : Beginning) (n k : ℕ) → end_blur node items b k ≡ grew (torn_front node' items' c n) →
+    TornGrown items' c n (torn_item items b k)
+blur_grown node node' items items' b c n k e =
+    let u = unstopped (needs_blur b && (k == 0)) (grew (behind node (items ++ Torn b k ∷ []) after_torn)) CountZero (torn_front node' items' c n) e in
+    let f = u.1 in
+    let lists : items ++ Torn b k ∷ [] ≡ items' ++ Torn c n ∷ [] = cc in
+    let t = last_of items items' (Torn b k) (Torn c n) lists in
+    let a = t.0 in
+    let x = t.1 in
+    let same_b : b ≡ c = cc in
+    let same_n : k ≡ n = cc in
+    ap (λ (q : Bool). if q then None else Some (TornItem (ticks_of items) (ticks_of items + (4 * symbol_count b + k)) (symbol_count b) k)) u.0
+    ∙ ap (λ (xs : List CaptureItem). Some (TornItem (ticks_of xs) (ticks_of xs + (4 * symbol_count b + k)) (symbol_count b) k)) a
+    ∙ ap (λ (y : Beginning). Some (TornItem (ticks_of items') (ticks_of items' + (4 * symbol_count y + k)) (symbol_count y) k)) same_b
+    ∙ ap (λ (y : ℕ). Some (TornItem (ticks_of items') (ticks_of items' + (4 * symbol_count c + y)) (symbol_count c) y)) same_n
+
+torn_grown : (f : Front) (o node : ℕ) (items : List CaptureItem) (c : Beginning) (n : ℕ) → grow f o ≡ grew (torn_front node items c n) → TornGrown items c n (item_at f o)
+torn_grown (in_magic k) o node items c n e = absurd (magic_grown k o node (items ++ Torn c n ∷ []) after_torn e)
+torn_grown at_version o node items c n e = absurd (version_grown o node (items ++ Torn c n ∷ []) after_torn e)
+torn_grown at_node o node items c n e =
+    absurd (neither (nat_lt o 16) (grew (behind o [] (in_burst no_symbols))) (fails NodeByte) (grew (torn_front node items c n)) (λ k. cc) (λ k. cc) e)
+torn_grown (behind node' items' (in_gap Nothing)) o node items c n e = cc
+torn_grown (behind node' items' (in_gap (One a))) o node items c n e = cc
+torn_grown (behind node' items' (in_gap (Two a b))) o node items c n e = cc
+torn_grown (behind node' items' (in_gap (Three a b d))) o node items c n e =
+    absurd (neither (count_of a b d o == 0) (fails CountZero) (grew (behind node' (items' ++ Gap (count_of a b d o) ∷ []) (in_burst no_symbols))) (grew (torn_front node items c n))
+    (λ k. cc) (λ k. cc) e)
+torn_grown (behind node' items' (in_burst b)) o node items c n e = absurd (torn_burst_grown (mark o) node' node items' items b c n e)
+torn_grown (behind node' items' (in_blur b Nothing)) o node items c n e = cc
+torn_grown (behind node' items' (in_blur b (One a))) o node items c n e = cc
+torn_grown (behind node' items' (in_blur b (Two a d))) o node items c n e = cc
+torn_grown (behind node' items' (in_blur b (Three a d x))) o node items c n e = blur_grown node' node items' items b c n (count_of a d x o) e
+torn_grown (behind node' items' after_torn) o node items c n e = by_mark (mark o) e
+  where
+    by_mark : (k : Mark) → grow_torn k node' items' ≡ grew (torn_front node items c n) → TornGrown items c n None
+    by_mark GapMark e = cc
+    by_mark End e = cc
+    by_mark TornMark e = cc
+    by_mark (Known s) e = cc
+    by_mark Unknown e = cc
+torn_grown (behind node' items' ended) o node items c n e = cc
+
+piece_handed : (octets : List ℕ) (f : Front) (o start : ℕ) (view : View) → AreMadeOf octets f → IsPieceOctet octets o start view → Hands f o (PieceItem start view)
+piece_handed octets f o start view m h =
+    let e : grow f o ≡ grew (piece_front h.node h.items h.pieces h.piece) = grown_from octets o f (piece_front h.node h.items h.pieces h.piece) m h.made in
+    let a = h.starts in
+    let b = h.shows in
+    let is : last_piece_item h.items h.pieces h.piece ≡ PieceItem start view = cc in
+    record {
+      grown_to = piece_front h.node h.items h.pieces h.piece;
+      grows = e;
+      hands = piece_grown f o h.node h.items h.pieces h.piece e ∙ ap (λ (i : Handed). Some i) is;
+    }
+
+torn_handed : (octets : List ℕ) (f : Front) (o start end symbols blur : ℕ) → AreMadeOf octets f → IsTornOctet octets o start end symbols blur → Hands f o (TornItem start end symbols blur)
+torn_handed octets f o start end symbols blur m h =
+    let e : grow f o ≡ grew (torn_front h.node h.items h.begun blur) = grown_from octets o f (torn_front h.node h.items h.begun blur) m h.made in
+    let a = h.starts in
+    let b = h.ends in
+    let c = h.counted in
+    let is : TornItem (ticks_of h.items) (ticks_of h.items + (4 * symbol_count h.begun + blur)) (symbol_count h.begun) blur ≡ TornItem start end symbols blur = cc in
+    record {
+      grown_to = torn_front h.node h.items h.begun blur;
+      grows = e;
+      hands = torn_grown f o h.node h.items h.begun blur e ∙ ap (λ (i : Handed). Some i) is;
+    }
+
+pub hands_here : (octets : List ℕ) (f : Front) (o : ℕ) (item : Handed) → AreMadeOf octets f → IsItemOctet octets o item → Hands f o item
+hands_here octets f o (PieceItem start view) m h = piece_handed octets f o start view m h
+hands_here octets f o (BeaconItem start) m h = burst_handed octets f o (BeaconItem start) m h
+hands_here octets f o (RunItem start end pieces) m h = burst_handed octets f o (RunItem start end pieces) m h
+hands_here octets f o (BareItem start end) m h = burst_handed octets f o (BareItem start end) m h
+hands_here octets f o (TornItem start end symbols blur) m h = torn_handed octets f o start end symbols blur m h
+
+-- the octets before an item's octet are within the limit
+pub item_within : (octets : List ℕ) (o : ℕ) (item : Handed) → IsItemOctet octets o item → length octets < 2 ^ 30
+item_within octets o (PieceItem start view) h = h.within_limit
+item_within octets o (BeaconItem start) h = h.within_limit
+item_within octets o (RunItem start end pieces) h = h.within_limit
+item_within octets o (BareItem start end) h = h.within_limit
+item_within octets o (TornItem start end symbols blur) h = h.within_limit

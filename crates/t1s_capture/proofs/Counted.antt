@@ -1,5 +1,5 @@
 -- The counts, the views and the history of the descrambler behind one item, one piece or one nibble more.
-use Rattle.std.proofs.Common.{◌≡◌, ℕ, zero, suc, ◌+◌, ◌*◌, ◌<◌, ◌≤◌, Bool, true, false, cond, List, [], ◌∷◌, ◌++◌, length, drop, nat_lt, if◌then◌else◌, refl, sym, ap, subst, ◌∙◌, arith, append_assoc, length-append}
+use Rattle.std.proofs.Common.{◌≡◌, ℕ, zero, suc, ◌+◌, ◌<◌, ◌≤◌, Bool, true, false, cond, List, [], ◌∷◌, ◌++◌, length, drop, nat_lt, if◌then◌else◌, refl, sym, ap, ◌∙◌, arith, append_assoc}
 use Rattle.std.specs.Prelude.{count_by}
 use Rattle.std.specs.List.{flat_map}
 use Rattle.std.proofs.lemmas.Bool.{ltb-true, ltb-false}
@@ -11,8 +11,7 @@ use Rattle.t1s_scramble.proofs.Nibbles.{descrambler_after-nil, descrambler_after
 use Rattle.t1s_grammar.specs.Burst.{Piece}
 use Rattle.t1s_grammar.specs.Prefixes.{Beginning, whole_pieces, last_nibbles}
 use Rattle.t1s_pcs_rx.specs.Views.{View, view_of}
-use Rattle.t1s_capture.specs.declared.items.Counts.{Counts}
-use Rattle.t1s_capture.specs.Captures.{CaptureItem, Gap, Burst, Torn, no_symbols, item_ticks, ticks_of}
+use Rattle.t1s_capture.specs.Captures.{CaptureItem, no_symbols, item_ticks, ticks_of}
 use Rattle.t1s_capture.specs.Pieces.{pieces_nibbles, nibbles_in, item_symbols, item_nibbles, item_pieces, history_behind, piece_views, item_views, views_of, is_good, is_beacon, is_run, is_bare, is_torn, counts_with}
 use Rattle.t1s_capture.specs.Stands.{kept_of, views_at}
 use Rattle.t1s_capture.proofs.Texts.{ticks_of-push}

@@ -1,10 +1,10 @@
 -- What octets that begin a capture are made of, with one octet more.
-use Rattle.std.proofs.Common.{◌≡◌, ℕ, ◌+◌, ◌*◌, Bool, true, false, List, [], ◌∷◌, ◌++◌, length, Result, Ok, Err, Option, None, Some, nat_lt, if◌then◌else◌}
+use Rattle.std.proofs.Common.{ℕ, ◌+◌, ◌*◌, List, [], ◌∷◌, ◌++◌, length, Result, Ok, Err, Option, None, Some, nat_lt, if◌then◌else◌}
 use Rattle.std.specs.Prelude.{◌==◌, ◌&&◌, slice_index}
 use Rattle.t1s_symbols.specs.declared.Symbol.{Symbol}
-use Rattle.t1s_symbols.specs.declared.Symbol.TheVariants.{Nibble, J, K, T, R, H, N, S}
+use Rattle.t1s_symbols.specs.declared.Symbol.TheVariants.{K, R, S}
 use Rattle.t1s_scramble.specs.Scrambled.{descrambler_after}
-use Rattle.t1s_grammar.specs.Burst.{Piece, pieces_symbols}
+use Rattle.t1s_grammar.specs.Burst.{pieces_symbols}
 use Rattle.t1s_grammar.specs.Prefixes.{Beginning, phase_of, whole_pieces, last_lead, last_nibbles}
 use Rattle.t1s_grammar.specs.Steps.{place_step, ends_burst}
 use Rattle.t1s_grammar.specs.declared.place.Phase.{Phase}
@@ -23,7 +23,7 @@ use Rattle.t1s_capture.specs.Fronts.{Tail, in_gap, in_burst, in_blur, after_torn
 use Rattle.t1s_capture.specs.Handed.{Handed, PieceItem, TornItem, burst_item}
 use Rattle.t1s_capture.specs.Advance.{mark, count_of}
 use Rattle.t1s_capture.specs.Stands.{ends_with_gap, needs_blur}
-use Rattle.t1s_capture.proofs.Growth.{grown, piece_of}
+use Rattle.t1s_capture.specs.Growing.{grown, piece_of}
 
 abbrev pub Grew : Type 0
 Grew = Result Front Why

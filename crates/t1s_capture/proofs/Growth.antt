@@ -1,16 +1,16 @@
 -- The beginning of a burst with one symbol more, and with a list of symbols more.
-use Rattle.std.proofs.Common.{◌≡◌, refl, ℕ, zero, suc, ◌+◌, ◌<◌, ◌≤◌, Bool, true, false, List, [], ◌∷◌, ◌++◌, length, map, replicate, Result, Ok, Err, nat_lt, if◌then◌else◌, sym, ap, subst, ◌∙◌, arith, append_assoc, length-append}
-use Rattle.std.specs.Prelude.{All, ◌==◌, ◌&&◌}
+use Rattle.std.proofs.Common.{◌≡◌, refl, ℕ, zero, suc, ◌+◌, ◌<◌, ◌≤◌, Bool, true, false, List, [], ◌∷◌, ◌++◌, length, map, replicate, nat_lt, if◌then◌else◌, sym, ap, ◌∙◌, arith, append_assoc, length-append}
+use Rattle.std.specs.Prelude.{All}
 use Rattle.std.proofs.lemmas.Grind.{common_steps}
-use Rattle.std.proofs.lemmas.Bool.{ltb-true, ltb-false, eqb-true}
+use Rattle.std.proofs.lemmas.Bool.{ltb-true, ltb-false}
 use Rattle.std.proofs.lemmas.List.{append-nil, map-append, replicate-append-replicate}
 use Rattle.std.proofs.lemmas.List.Elements.{All-append}
 use Rattle.t1s_symbols.specs.declared.Symbol.{Symbol}
 use Rattle.t1s_symbols.specs.declared.Symbol.TheVariants.{Nibble, J, K, T, R, H, N, S}
 use Rattle.t1s_symbols.specs.Ranges.{IsSymbol}
-use Rattle.t1s_grammar.specs.Burst.{Piece, IsPieceInRange, IsCloser, open_symbols, piece_symbols, pieces_symbols}
-use Rattle.t1s_grammar.specs.Prefixes.{Beginning, beginning_symbols, IsBeginning, IsLead, ArePieces, AreNibbles, phase_of, beacon, between, opened, within, ended}
-use Rattle.t1s_grammar.specs.Steps.{start_phase, place_step, between_step, within_step, beacon_step, ended_step, opened_step}
+use Rattle.t1s_grammar.specs.Burst.{Piece, IsCloser, open_symbols, piece_symbols, pieces_symbols}
+use Rattle.t1s_grammar.specs.Prefixes.{Beginning, beginning_symbols, IsBeginning, phase_of, beacon, between, opened, within, ended}
+use Rattle.t1s_grammar.specs.Steps.{place_step, between_step, within_step, beacon_step, ended_step, opened_step}
 use Rattle.t1s_grammar.specs.declared.place.Phase.{Phase}
 use Rattle.t1s_grammar.specs.declared.place.Phase.TheVariants.{Beacon, Between, Opened, Within, Ended}
 use Rattle.t1s_grammar.specs.declared.place.PlaceFault.{PlaceFault}
@@ -18,20 +18,7 @@ use Rattle.t1s_grammar.specs.declared.place.PlaceFault.TheVariants.{NotHere, Too
 use Rattle.t1s_grammar.proofs.Judged.{Judgement, taken, refused}
 use Rattle.t1s_grammar.proofs.Beginnings.{All-nil, more_pieces, ArePieces-push, refused-taken}
 use Rattle.t1s_capture.specs.Captures.{no_symbols}
-
-abbrev pub piece_of : ℕ → List ℕ → Symbol → Piece
-piece_of lead nibbles closer = record { lead = lead; nibbles = nibbles; closer = closer }
-
--- with one symbol more, where that is taken
-abbrev pub grown : Beginning → Symbol → Beginning
-grown (beacon count) s = beacon (count + 1)
-grown (between ps lead) J = between ps (lead + 1)
-grown (between ps lead) H = opened ps lead
-grown (between ps lead) _ = beacon 1
-grown (opened ps lead) s = within ps lead []
-grown (within ps lead ns) (Nibble n) = within ps lead (ns ++ n ∷ [])
-grown (within ps lead ns) _ = ended ps lead ns
-grown (ended ps lead ns) s = between (ps ++ piece_of lead ns s ∷ []) 0
+use Rattle.t1s_capture.specs.Growing.{grown, piece_of}
 
 -- what a symbol that is taken leaves
 pub record Taken (b : Beginning) (s : Symbol) (q : Phase) : Type 0 where

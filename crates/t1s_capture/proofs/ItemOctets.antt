@@ -1,12 +1,11 @@
 -- The items are handed out exactly at their octets.
-use Rattle.std.proofs.Common.{◌≡◌, ◌≢◌, ℕ, zero, suc, ◌+◌, ◌*◌, ◌^◌, ◌<◌, ◌≤◌, ◌⊎◌, Bool, true, false, List, [], ◌∷◌, ◌++◌, length, Result, Ok, Err, Option, None, Some, refl, sym, ap, subst, ◌∙◌, inl, inr, arith, nat_lt, if◌then◌else◌}
+use Rattle.std.proofs.Common.{◌≡◌, ◌≢◌, ℕ, ◌+◌, ◌*◌, ◌^◌, ◌<◌, ◌⊎◌, Bool, true, false, List, [], ◌∷◌, ◌++◌, length, Result, Ok, Err, Option, None, Some, refl, sym, ap, subst, ◌∙◌, inl, inr, arith, nat_lt, if◌then◌else◌}
 use Rattle.std.specs.Prelude.{◌==◌, ◌&&◌, slice_index}
-use Rattle.std.proofs.lemmas.Grind.{common_steps}
 use Rattle.t1s_symbols.specs.declared.Symbol.{Symbol}
 use Rattle.t1s_symbols.specs.declared.Symbol.TheVariants.{Nibble, J, K, T, R, H, N, S}
 use Rattle.t1s_scramble.specs.Scrambled.{descrambler_after}
 use Rattle.t1s_grammar.specs.Burst.{Piece, pieces_symbols}
-use Rattle.t1s_grammar.specs.Prefixes.{Beginning, beginning_symbols, phase_of, beacon, between, opened, within, ended as ended_piece}
+use Rattle.t1s_grammar.specs.Prefixes.{Beginning, phase_of, beacon, between, opened, within, ended as ended_piece}
 use Rattle.t1s_grammar.specs.Steps.{place_step, ends_burst}
 use Rattle.t1s_grammar.specs.declared.place.Phase.{Phase}
 use Rattle.t1s_grammar.specs.declared.place.PlaceFault.{PlaceFault}
@@ -14,8 +13,7 @@ use Rattle.t1s_grammar.specs.declared.place.PlaceFault.TheVariants.{NotHere, Too
 use Rattle.t1s_grammar.proofs.Judged.{taken as place_taken, refused as place_refused}
 use Rattle.t1s_grammar.proofs.Beginnings.{refused-taken}
 use Rattle.t1s_pcs_rx.specs.Views.{View, view_of}
-use Rattle.t1s_capture.specs.declared.items.Why.{Why}
-use Rattle.t1s_capture.specs.declared.items.Why.TheVariants.{Magic as BadMagic, Version as BadVersion, NodeByte, CountZero, GapTwice, Group, Place, BurstLong, AfterEnd}
+use Rattle.t1s_capture.specs.declared.items.Why.TheVariants.{Magic as BadMagic, Version as BadVersion, NodeByte, CountZero, GapTwice, Place, BurstLong}
 use Rattle.t1s_capture.specs.declared.stage.CountSoFar.{CountSoFar}
 use Rattle.t1s_capture.specs.declared.stage.CountSoFar.TheVariants.{Nothing, One, Two, Three}
 use Rattle.t1s_capture.specs.declared.stage.Mark.{Mark}
@@ -26,11 +24,11 @@ use Rattle.t1s_capture.specs.Fronts.{Tail, in_gap, in_burst, in_blur, after_torn
 use Rattle.t1s_capture.specs.Handed.{Handed, PieceItem, BeaconItem, RunItem, BareItem, TornItem, burst_item, IsPieceOctet, IsBurstOctet, IsTornOctet, IsItemOctet}
 use Rattle.t1s_capture.specs.Advance.{mark, count_of}
 use Rattle.t1s_capture.specs.Stands.{ends_with_gap, needs_blur}
-use Rattle.t1s_capture.proofs.Growth.{grown, piece_of}
+use Rattle.t1s_capture.specs.Growing.{grown, piece_of}
 use Rattle.t1s_capture.proofs.Texts.{last_of, no_last}
 use Rattle.t1s_capture.proofs.Marks.{IsMarked, marked}
-use Rattle.t1s_capture.proofs.Grow.{Grew, grew, fails, grow, grow_magic, grow_version, grow_node, grow_gap, grow_blur, grow_burst, grow_symbol, grow_torn, end_gap, end_blur, item_at, piece_item, closer_item, symbol_item, burst_item_at, whole_burst_item, blur_item_at, torn_item}
-use Rattle.t1s_capture.proofs.Sound.{same_front, no_front, passes, unstopped, is_burst, burst_ends, begun}
+use Rattle.t1s_capture.proofs.Grow.{Grew, grew, fails, grow, grow_magic, grow_version, grow_blur, grow_burst, grow_symbol, grow_torn, end_blur, item_at, piece_item, closer_item, symbol_item, burst_item_at, whole_burst_item, blur_item_at, torn_item}
+use Rattle.t1s_capture.proofs.Sound.{same_front, no_front, unstopped, is_burst, burst_ends, begun}
 use Rattle.t1s_capture.proofs.Whole.{made_once, made_more, grown_from}
 
 -- ---- an item that is handed out is at its octet

@@ -11,3 +11,5 @@ pub mod Counted
 pub mod States
 pub mod ItemOctets
 pub mod Steps
+pub mod Rows
+pub mod Cuts

@@ -1,17 +1,16 @@
 -- Octets are made of one thing alone: what they grow to, octet by octet.
-use Rattle.std.proofs.Common.{replicate, ◌≡◌, ◌≢◌, ℕ, zero, suc, ◌+◌, ◌/◌, ◌%◌, ◌^◌, ◌<◌, ◌≤◌, ◌⊎◌, Bool, true, false, List, [], ◌∷◌, ◌++◌, length, map, take, Result, Ok, Err, refl, sym, ap, subst, ◌∙◌, inl, inr, arith, append_assoc, length-append, nat_lt, if◌then◌else◌}
-use Rattle.std.specs.Prelude.{All, ◌==◌, ◌&&◌, ◌||◌, slice_index}
-use Rattle.std.proofs.lemmas.Grind.{common_steps}
-use Rattle.std.proofs.lemmas.Bool.{eqb-true, eqb-false, ltb-true, lt-ltb, eq-eqb, ne_eqb}
-use Rattle.std.proofs.lemmas.List.{append-nil, map-append}
-use Rattle.std.proofs.lemmas.List.Elements.{All-tail, All-head}
+use Rattle.std.proofs.Common.{replicate, ◌≡◌, ℕ, zero, suc, ◌<◌, ◌≤◌, Bool, true, false, List, [], ◌∷◌, ◌++◌, map, take, Ok, Err, refl, sym, ap, subst, ◌∙◌, arith, append_assoc, if◌then◌else◌}
+use Rattle.std.specs.Prelude.{All, ◌==◌, ◌&&◌}
+use Rattle.std.proofs.lemmas.Bool.{lt-ltb, ne_eqb}
+use Rattle.std.proofs.lemmas.List.{append-nil}
+use Rattle.std.proofs.lemmas.List.Elements.{All-head}
 use Rattle.t1s_symbols.specs.Groups.{group}
 use Rattle.t1s_symbols.specs.Ranges.{IsSymbol}
 use Rattle.t1s_symbols.specs.declared.Symbol.{Symbol}
 use Rattle.t1s_symbols.specs.declared.Symbol.TheVariants.{Nibble, J, K, T, R, H, N, S}
-use Rattle.t1s_grammar.specs.Burst.{Piece, IsPieceInRange, IsCloser, IsBurst, open_symbols, piece_symbols, pieces_symbols}
+use Rattle.t1s_grammar.specs.Burst.{Piece, IsPieceInRange, IsCloser, open_symbols, piece_symbols, pieces_symbols}
 use Rattle.t1s_grammar.specs.Prefixes.{Beginning, beginning_symbols, IsBeginning, phase_of, beacon, between, opened, within, ended as ended_piece}
-use Rattle.t1s_grammar.specs.Steps.{start_phase, place_step, ends_burst}
+use Rattle.t1s_grammar.specs.Steps.{place_step, ends_burst}
 use Rattle.t1s_grammar.specs.declared.place.Phase.{Phase}
 use Rattle.t1s_grammar.specs.declared.place.PlaceFault.{PlaceFault}
 use Rattle.t1s_grammar.proofs.Judged.{Judgement, taken, refused, after, after-err, after-beginning}
@@ -19,13 +18,12 @@ use Rattle.t1s_capture.specs.declared.items.Why.{Why}
 use Rattle.t1s_capture.specs.declared.items.Why.TheVariants.{CountZero, GapTwice}
 use Rattle.t1s_capture.specs.declared.stage.CountSoFar.{CountSoFar}
 use Rattle.t1s_capture.specs.declared.stage.CountSoFar.TheVariants.{Nothing, One, Two, Three}
-use Rattle.t1s_capture.specs.declared.stage.Mark.TheVariants.{Known}
-use Rattle.t1s_capture.specs.Captures.{CaptureItem, Gap, Burst, Torn, magic, header, no_symbols, symbol_count, symbol_octets, item_octets, count_octets, NeedsBlur, IsItem, is_gap, Alternates, IsItemList, begun_text}
-use Rattle.t1s_capture.specs.Fronts.{Tail, in_gap, in_burst, in_blur, after_torn, ended, Front, in_magic, at_version, at_node, behind, tail_octets, counted_octets, IsTail, IsFront, front_octets}
-use Rattle.t1s_capture.specs.Advance.{mark, count_of}
+use Rattle.t1s_capture.specs.Captures.{CaptureItem, Gap, Burst, Torn, magic, header, no_symbols, symbol_octets, item_octets, count_octets, NeedsBlur, IsItem, is_gap, Alternates, IsItemList, begun_text}
+use Rattle.t1s_capture.specs.Fronts.{Tail, in_gap, in_burst, in_blur, after_torn, ended, Front, in_magic, at_version, at_node, behind, counted_octets, IsFront, front_octets}
 use Rattle.t1s_capture.specs.Stands.{ends_with_gap, needs_blur}
-use Rattle.t1s_capture.proofs.Growth.{grown, grown_all, more, regrown}
-use Rattle.t1s_capture.proofs.Texts.{octets_of, count_of-octets, ends_with_gap-last, last_of, no_last, Alternates-two, Alternates-front, All-front, All-back, All-one, list_front, last_item}
+use Rattle.t1s_capture.proofs.Growth.{grown_all, more, regrown}
+use Rattle.t1s_capture.specs.Growing.{grown}
+use Rattle.t1s_capture.proofs.Texts.{octets_of, count_of-octets, last_of, no_last, Alternates-two, All-back, list_front}
 use Rattle.t1s_capture.proofs.Marks.{group_mark}
 use Rattle.t1s_capture.proofs.Grow.{Grew, grew, fails, grow, grow_symbol, grow_burst, end_gap, end_blur}
 use Rattle.t1s_capture.proofs.Sound.{burst_ends, needed_blur, begun}

@@ -1,11 +1,10 @@
 -- Why an octet is refused, by what the octets before it are made of.
-use Rattle.std.proofs.Common.{◌≡◌, ◌≢◌, ℕ, zero, suc, ◌+◌, ◌<◌, ◌≤◌, ◌⊎◌, Bool, true, false, List, [], ◌∷◌, ◌++◌, length, take, map, Result, Ok, Err, Option, None, Some, refl, sym, ap, subst, ◌∙◌, inl, inr, arith, append_assoc, length-append, nat_lt, if◌then◌else◌}
-use Rattle.std.specs.Prelude.{◌==◌, ◌&&◌, ◌||◌, slice_index}
-use Rattle.std.proofs.lemmas.Grind.{common_steps}
-use Rattle.std.proofs.lemmas.Bool.{eqb-true, eqb-false, eq-eqb, and_parts}
+use Rattle.std.proofs.Common.{◌≡◌, ◌≢◌, ℕ, zero, suc, ◌+◌, ◌<◌, ◌≤◌, ◌⊎◌, Bool, true, false, List, [], ◌∷◌, ◌++◌, length, take, Result, Ok, Err, None, Some, refl, sym, ap, subst, ◌∙◌, inl, inr, arith, append_assoc, nat_lt, if◌then◌else◌}
+use Rattle.std.specs.Prelude.{◌==◌, ◌&&◌, slice_index}
+use Rattle.std.proofs.lemmas.Bool.{eqb-true, eqb-false, and_parts}
 use Rattle.t1s_symbols.specs.declared.Symbol.{Symbol}
 use Rattle.t1s_symbols.specs.Groups.{symbol}
-use Rattle.t1s_grammar.specs.Prefixes.{Beginning, beginning_symbols, IsBeginning, phase_of, IsTooLong}
+use Rattle.t1s_grammar.specs.Prefixes.{Beginning, beginning_symbols, phase_of, IsTooLong}
 use Rattle.t1s_grammar.specs.Steps.{place_step, ends_burst}
 use Rattle.t1s_grammar.specs.declared.place.Phase.{Phase}
 use Rattle.t1s_grammar.specs.declared.place.PlaceFault.{PlaceFault}
@@ -17,14 +16,14 @@ use Rattle.t1s_capture.specs.declared.stage.CountSoFar.{CountSoFar}
 use Rattle.t1s_capture.specs.declared.stage.CountSoFar.TheVariants.{Nothing, One, Two, Three}
 use Rattle.t1s_capture.specs.declared.stage.Mark.{Mark}
 use Rattle.t1s_capture.specs.declared.stage.Mark.TheVariants.{Gap as GapMark, End, Torn as TornMark, Known, Unknown}
-use Rattle.t1s_capture.specs.Captures.{CaptureItem, Gap, Burst, Torn, header, magic, no_symbols, symbol_count, NeedsBlur, is_gap, begun_text, IsCapture}
+use Rattle.t1s_capture.specs.Captures.{CaptureItem, Gap, Burst, Torn, header, magic, no_symbols, symbol_count, is_gap, IsCapture}
 use Rattle.t1s_capture.specs.Fronts.{Tail, in_gap, in_burst, in_blur, after_torn, ended, tail_octets, Front, in_magic, at_version, at_node, behind, AreMadeOf}
-use Rattle.t1s_capture.specs.Offences.{IsOpenTail, IsOpen, EndsWithGap, IsZeroCount, EndsInZeros, IsUnknown, GrowsTooLong, IsFirstOf}
+use Rattle.t1s_capture.specs.Offences.{IsOpenTail, EndsWithGap, IsZeroCount, EndsInZeros, IsUnknown, GrowsTooLong, IsFirstOf}
 use Rattle.t1s_capture.specs.Advance.{mark, count_of}
 use Rattle.t1s_capture.specs.Stands.{ends_with_gap, needs_blur}
 use Rattle.t1s_capture.proofs.Texts.{octets_of, Ending, empty, last, ending, ends_with_gap-last}
 use Rattle.t1s_capture.proofs.Marks.{IsKnown, IsMarked, marked, no_symbol_gap, no_symbol_end}
-use Rattle.t1s_capture.proofs.Grow.{Grew, grew, fails, grow, grow_magic, grow_version, grow_node, end_gap, end_blur, grow_gap, grow_blur, grow_burst, grow_symbol, grow_torn}
+use Rattle.t1s_capture.proofs.Grow.{Grew, grew, fails, grow, grow_magic, grow_version, grow_node, grow_gap, grow_blur, grow_burst, grow_symbol, grow_torn}
 use Rattle.t1s_capture.proofs.Sound.{burst_place, begun, none_begun, needed_blur}
 use Rattle.t1s_capture.proofs.Whole.{made_once, same_items, capture_made, made_capture}
 

@@ -1,6 +1,6 @@
 -- With an octet more, octets are made of what has grown.
-use Rattle.std.proofs.Common.{◌≡◌, ◌≢◌, ℕ, zero, suc, ◌+◌, ◌^◌, ◌<◌, ◌≤◌, ◌⊎◌, Bool, true, false, List, [], ◌∷◌, ◌++◌, length, map, take, Result, Ok, Err, refl, sym, ap, subst, ◌∙◌, inl, inr, arith, append_assoc, length-append, nat_lt, if◌then◌else◌}
-use Rattle.std.specs.Prelude.{All, ◌==◌, ◌&&◌, ◌||◌, slice_index}
+use Rattle.std.proofs.Common.{◌≡◌, ◌≢◌, ℕ, zero, suc, ◌+◌, ◌^◌, ◌<◌, ◌≤◌, ◌⊎◌, Bool, true, false, List, [], ◌∷◌, ◌++◌, length, map, take, Result, Ok, Err, refl, sym, ap, subst, ◌∙◌, inl, inr, arith, append_assoc, nat_lt, if◌then◌else◌}
+use Rattle.std.specs.Prelude.{◌==◌, ◌&&◌, ◌||◌, slice_index}
 use Rattle.std.proofs.lemmas.Grind.{common_steps}
 use Rattle.std.proofs.lemmas.Bool.{eqb-true, eqb-false, ltb-true, eq-eqb}
 use Rattle.std.proofs.lemmas.List.{append-nil, map-append}
@@ -20,14 +20,15 @@ use Rattle.t1s_capture.specs.declared.stage.CountSoFar.{CountSoFar}
 use Rattle.t1s_capture.specs.declared.stage.CountSoFar.TheVariants.{Nothing, One, Two, Three}
 use Rattle.t1s_capture.specs.declared.stage.Mark.{Mark}
 use Rattle.t1s_capture.specs.declared.stage.Mark.TheVariants.{Gap as GapMark, End, Torn as TornMark, Known, Unknown}
-use Rattle.t1s_capture.specs.Captures.{CaptureItem, Gap, Burst, Torn, magic, header, no_symbols, symbol_count, symbol_octets, item_octets, count_octets, NeedsBlur, IsItem, is_gap, IsItemList, begun_text}
-use Rattle.t1s_capture.specs.Fronts.{Tail, in_gap, in_burst, in_blur, after_torn, ended, Front, in_magic, at_version, at_node, behind, tail_octets, AreOctets, counted_octets, IsTail, IsFront, front_octets}
+use Rattle.t1s_capture.specs.Captures.{CaptureItem, Gap, Burst, Torn, magic, no_symbols, symbol_count, symbol_octets, item_octets, NeedsBlur, IsItem, is_gap, IsItemList, begun_text}
+use Rattle.t1s_capture.specs.Fronts.{in_gap, in_burst, in_blur, after_torn, ended, Front, in_magic, at_version, at_node, behind, AreOctets, counted_octets, IsFront, front_octets}
 use Rattle.t1s_capture.specs.Advance.{mark, count_of}
 use Rattle.t1s_capture.specs.Stands.{ends_with_gap, needs_blur}
-use Rattle.t1s_capture.proofs.Growth.{grown, more, regrown, grown_all}
-use Rattle.t1s_capture.proofs.Texts.{octets_of, count_octets-count_of, begun_text-push, Ending, empty, last, ending, ends_with_gap-last, Alternates-two, list_front, last_item, list_like, list_next, list_none, list_one}
+use Rattle.t1s_capture.proofs.Growth.{more, regrown, grown_all}
+use Rattle.t1s_capture.specs.Growing.{grown}
+use Rattle.t1s_capture.proofs.Texts.{count_octets-count_of, begun_text-push, Ending, empty, last, ending, ends_with_gap-last, Alternates-two, list_front, last_item, list_like, list_next, list_one}
 use Rattle.t1s_capture.proofs.Marks.{IsKnown, IsMarked, marked}
-use Rattle.t1s_capture.proofs.Grow.{Grew, grew, fails, grow_magic, grow_version, grow_node, end_gap, grow_gap, end_blur, grow_blur, grow_symbol, grow_burst, grow_torn, grow_tail, grow}
+use Rattle.t1s_capture.proofs.Grow.{Grew, grew, fails, grow_magic, grow_version, grow_node, grow_gap, grow_blur, grow_symbol, grow_burst, grow_torn, grow}
 
 -- what has grown by an octet
 pub record Grows (f : Front) (o : ℕ) (g : Front) : Type 0 where

@@ -1,30 +1,27 @@
 -- What a decoder keeps follows what its octets are made of, octet by octet.
-use Rattle.std.proofs.Common.{◌≡◌, ◌≢◌, ℕ, zero, suc, ◌+◌, ◌*◌, ◌^◌, ◌<◌, ◌≤◌, Bool, true, false, cond, List, [], ◌∷◌, ◌++◌, length, drop, map, Result, Ok, Err, Option, None, Some, refl, sym, ap, subst, ◌∙◌, arith, append_assoc, length-append, nat_lt, if◌then◌else◌}
-use Rattle.std.specs.Prelude.{◌==◌, ◌&&◌, ◌||◌, slice_index, count_by}
-use Rattle.std.proofs.lemmas.Grind.{common_steps}
-use Rattle.std.proofs.lemmas.Bool.{eqb-true, eqb-false, ne_eqb}
+use Rattle.std.proofs.Common.{◌≡◌, ℕ, zero, suc, ◌+◌, ◌*◌, Bool, true, false, List, [], ◌∷◌, ◌++◌, length, drop, Result, Ok, Err, Option, None, Some, refl, sym, ap, ◌∙◌, arith, append_assoc, length-append, nat_lt, if◌then◌else◌}
+use Rattle.std.specs.Prelude.{◌==◌, ◌&&◌, slice_index, count_by}
+use Rattle.std.proofs.lemmas.Bool.{eqb-true, ne_eqb}
 use Rattle.std.proofs.lemmas.List.{append-nil}
 use Rattle.t1s_symbols.specs.declared.Symbol.{Symbol}
 use Rattle.t1s_symbols.specs.declared.Symbol.TheVariants.{Nibble, J, K, T, R, H, N, S}
 use Rattle.t1s_scramble.specs.Scrambled.{start_history, descrambled_nibble, descrambled_nibbles, descrambler_after}
-use Rattle.t1s_scramble.proofs.Nibbles.{descrambler_after-nil, descrambler_after-append}
+use Rattle.t1s_scramble.proofs.Nibbles.{descrambler_after-append}
 use Rattle.t1s_grammar.specs.Burst.{Piece, pieces_symbols}
 use Rattle.t1s_grammar.specs.Prefixes.{Beginning, beginning_symbols, phase_of, whole_pieces, last_nibbles, beacon, between, opened, within, ended as ended_piece}
-use Rattle.t1s_grammar.specs.Steps.{place_step, between_step, within_step, opened_step, ended_step, beacon_step, pieces_at, lead_at, nibbles_at, ends_burst}
+use Rattle.t1s_grammar.specs.Steps.{place_step, pieces_at, lead_at, nibbles_at, ends_burst}
 use Rattle.t1s_grammar.specs.declared.place.Phase.{Phase}
 use Rattle.t1s_grammar.specs.declared.place.PlaceFault.{PlaceFault}
 use Rattle.t1s_grammar.specs.declared.place.PlaceFault.TheVariants.{NotHere, TooLong as OneTooMany}
 use Rattle.t1s_grammar.proofs.Judged.{taken as place_taken, refused as place_refused}
 use Rattle.t1s_grammar.proofs.Beginnings.{refused-taken}
 use Rattle.t1s_pcs_rx.specs.Views.{View, view_of}
-use Rattle.t1s_capture.specs.declared.items.Why.{Why}
-use Rattle.t1s_capture.specs.declared.items.Why.TheVariants.{Magic as BadMagic, Version as BadVersion, NodeByte, CountZero, GapTwice, Group, Place, BurstLong, AfterEnd}
+use Rattle.t1s_capture.specs.declared.items.Why.TheVariants.{Magic as BadMagic, Version as BadVersion, NodeByte, CountZero, GapTwice, Place}
 use Rattle.t1s_capture.specs.declared.items.Counts.{Counts}
 use Rattle.t1s_capture.specs.declared.stage.CountSoFar.{CountSoFar}
 use Rattle.t1s_capture.specs.declared.stage.CountSoFar.TheVariants.{Nothing, One, Two, Three}
-use Rattle.t1s_capture.specs.declared.stage.BurstSoFar.{BurstSoFar}
 use Rattle.t1s_capture.specs.declared.stage.Stage.{Stage}
-use Rattle.t1s_capture.specs.declared.stage.Stage.TheVariants.{Magic, Version, Node, InGap, InBurst, InBlur, AfterTorn, Ended}
+use Rattle.t1s_capture.specs.declared.stage.Stage.TheVariants.{Magic, Version, Node, InGap, InBurst, AfterTorn, Ended}
 use Rattle.t1s_capture.specs.declared.stage.Mark.{Mark}
 use Rattle.t1s_capture.specs.declared.stage.Mark.TheVariants.{Gap as GapMark, End, Torn as TornMark, Known, Unknown}
 use Rattle.t1s_capture.specs.declared.progress.Progress.{Progress}
@@ -34,12 +31,13 @@ use Rattle.t1s_capture.specs.Captures.{CaptureItem, Gap, Burst, Torn, magic, no_
 use Rattle.t1s_capture.specs.Pieces.{pieces_nibbles, nibbles_in, history_behind, piece_views, views_of, is_good, is_beacon, is_run, is_bare, is_torn, counts_with}
 use Rattle.t1s_capture.specs.Fronts.{Tail, in_gap, in_burst, in_blur, after_torn, ended, Front, in_magic, at_version, at_node, behind, IsFront}
 use Rattle.t1s_capture.specs.State.{DecoderState}
-use Rattle.t1s_capture.specs.Handed.{Handed, PieceItem, BeaconItem, RunItem, BareItem, TornItem, burst_item}
+use Rattle.t1s_capture.specs.Handed.{Handed, BeaconItem, RunItem, BareItem, TornItem, burst_item}
 use Rattle.t1s_capture.specs.Advance.{mark, count_of, progress_of, refuses, goes, hands, behind_octet, no_burst, with_ticks, with_torn, with_piece, with_beacon, with_bare, with_run, with_whole, whole_item, magic_step, version_step, node_step, gap_step, gap_ends, blur_step, blur_ends, burst_step_by, gap_here, end_here, burst_ends, symbol_judged, symbol_taken, piece_ends, longer, torn_step_by, stage_step}
 use Rattle.t1s_capture.specs.Stands.{ends_with_gap, needs_blur, burst_stage, tail_stage, tail_symbols, kept_of, tail_kept, views_at, counts_at, reader_at, header_state, state_of}
-use Rattle.t1s_capture.proofs.Growth.{grown, piece_of, Taken, more, none_before}
+use Rattle.t1s_capture.proofs.Growth.{Taken, more, none_before}
+use Rattle.t1s_capture.specs.Growing.{grown, piece_of}
 use Rattle.t1s_capture.proofs.Texts.{ends_with_gap-last}
-use Rattle.t1s_capture.proofs.Counted.{history_push, history_none, history_rests, pieces_nibbles-push, history_more, none_kept, kept_more, piece_views-push, views_push, views_rest, views_none, views_behind, count_push, counts_push}
+use Rattle.t1s_capture.proofs.Counted.{history_push, history_none, history_rests, pieces_nibbles-push, history_more, none_kept, kept_more, piece_views-push, views_none, views_behind, count_push, counts_push}
 use Rattle.t1s_capture.proofs.Grow.{Grew, grew, fails, grow, grow_magic, grow_version, grow_node, grow_gap, grow_blur, grow_burst, grow_symbol, grow_torn, end_gap, end_blur, item_at, piece_item, closer_item, symbol_item, burst_item_at, whole_burst_item, blur_item_at, torn_item}
 use Rattle.t1s_capture.proofs.Sound.{begun, none_begun}
 

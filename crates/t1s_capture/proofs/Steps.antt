@@ -1,5 +1,5 @@
 -- What a decoder answers, for all octets that it stands for.
-use Rattle.std.proofs.Common.{◌≡◌, ◌≢◌, ◌↔◌, ℕ, ◌+◌, ◌^◌, ◌<◌, ◌≤◌, Bool, true, false, List, [], ◌∷◌, ◌++◌, length, Result, Ok, Err, Option, None, Some, refl, sym, ap, subst, ◌∙◌, inl, inr, ⊎_elim, arith, length-append, if◌then◌else◌}
+use Rattle.std.proofs.Common.{◌≡◌, ◌↔◌, ℕ, ◌+◌, ◌^◌, ◌<◌, ◌≤◌, Bool, true, false, List, [], ◌∷◌, ◌++◌, length, Result, Ok, Err, Option, None, Some, refl, sym, ap, subst, ◌∙◌, inr, ⊎_elim, arith, length-append, if◌then◌else◌}
 use Rattle.std.specs.Prelude.{◌==◌}
 use Rattle.std.proofs.lemmas.Bool.{eqb-true, eqb-false}
 use Rattle.t1s_capture.specs.declared.items.Why.{Why}
@@ -7,10 +7,10 @@ use Rattle.t1s_capture.specs.declared.items.Why.TheVariants.{TooLong, Truncated}
 use Rattle.t1s_capture.specs.declared.items.Refusal.{Refusal}
 use Rattle.t1s_capture.specs.declared.items.Counts.{Counts}
 use Rattle.t1s_capture.specs.declared.decoder.Next.{Next}
-use Rattle.t1s_capture.specs.declared.decoder.Next.TheVariants.{More, Held, Refused}
-use Rattle.t1s_capture.specs.Captures.{CaptureItem, IsCaptureOf, IsCapture, IsCapturePrefix}
+use Rattle.t1s_capture.specs.declared.decoder.Next.TheVariants.{More, Refused}
+use Rattle.t1s_capture.specs.Captures.{CaptureItem, IsCapture, IsCapturePrefix}
 use Rattle.t1s_capture.specs.Pieces.{counts_with, counts_of}
-use Rattle.t1s_capture.specs.Fronts.{Tail, in_gap, in_burst, in_blur, after_torn, ended, Front, in_magic, at_version, at_node, behind, IsFront, AreMadeOf}
+use Rattle.t1s_capture.specs.Fronts.{in_gap, in_burst, in_blur, after_torn, ended, Front, in_magic, at_version, at_node, behind, AreMadeOf}
 use Rattle.t1s_capture.specs.Handed.{Handed, IsItemOctet}
 use Rattle.t1s_capture.specs.State.{DecoderState}
 use Rattle.t1s_capture.specs.Offences.{IsFirstOf, reasons, IsFirstOffence}

@@ -1,12 +1,12 @@
 -- Lists of items, and their octets.
-use Rattle.std.proofs.Common.{◌≡◌, ◌≢◌, ℕ, zero, suc, ◌+◌, ◌/◌, ◌%◌, ◌^◌, ◌<◌, ◌≤◌, Bool, true, false, cond, List, [], ◌∷◌, ◌++◌, length, map, refl, sym, ap, subst, ◌∙◌, arith, append_assoc, length-append}
+use Rattle.std.proofs.Common.{◌≡◌, ◌≢◌, ℕ, zero, suc, ◌+◌, ◌/◌, ◌%◌, ◌<◌, List, [], ◌∷◌, ◌++◌, length, refl, sym, ap, subst, ◌∙◌, arith, append_assoc, length-append}
 use Rattle.std.specs.Prelude.{All}
 use Rattle.std.specs.List.{flat_map}
 use Rattle.std.proofs.lemmas.List.{append-nil, get_or_append_left, get_or-append-add}
 use Rattle.std.proofs.lemmas.List.Concat.{flat_map-append}
 use Rattle.std.proofs.lemmas.List.Sums.{sum_by-append}
 use Rattle.std.proofs.lemmas.List.Elements.{All-head, All-append}
-use Rattle.t1s_capture.specs.Captures.{CaptureItem, Gap, Burst, Torn, count_octets, item_octets, item_ticks, IsItem, is_gap, AlternatesFrom, Alternates, IsItemList, ticks_of, header, begun_text}
+use Rattle.t1s_capture.specs.Captures.{CaptureItem, count_octets, item_octets, item_ticks, IsItem, is_gap, AlternatesFrom, Alternates, IsItemList, ticks_of, header, begun_text}
 use Rattle.t1s_capture.specs.Advance.{count_of}
 use Rattle.t1s_capture.specs.Stands.{ends_with_gap}
 

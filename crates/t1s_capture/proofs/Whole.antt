@@ -1,6 +1,6 @@
 -- What octets that begin a capture go on to.
-use Rattle.std.proofs.Common.{◌≡◌, ◌≢◌, ℕ, zero, suc, ◌+◌, ◌<◌, ◌≤◌, Bool, true, false, List, [], ◌∷◌, ◌++◌, length, take, Result, Ok, Err, refl, sym, ap, subst, ◌∙◌, arith, append_assoc, if◌then◌else◌}
-use Rattle.std.specs.Prelude.{◌==◌, ◌&&◌, slice_index}
+use Rattle.std.proofs.Common.{◌≡◌, ◌≢◌, ℕ, zero, suc, ◌<◌, Bool, true, false, List, [], ◌∷◌, ◌++◌, refl, sym, ap, subst, ◌∙◌, arith, append_assoc, if◌then◌else◌}
+use Rattle.std.specs.Prelude.{◌==◌, ◌&&◌}
 use Rattle.std.proofs.lemmas.Bool.{ne_eqb}
 use Rattle.std.proofs.lemmas.List.{append-nil}
 use Rattle.t1s_grammar.specs.Prefixes.{Beginning}
@@ -8,12 +8,12 @@ use Rattle.t1s_capture.specs.declared.items.Why.{Why}
 use Rattle.t1s_capture.specs.declared.items.Why.TheVariants.{CountZero, AfterEnd}
 use Rattle.t1s_capture.specs.declared.stage.CountSoFar.{CountSoFar}
 use Rattle.t1s_capture.specs.declared.stage.CountSoFar.TheVariants.{Nothing, One, Two, Three}
-use Rattle.t1s_capture.specs.Captures.{CaptureItem, Gap, Torn, no_symbols, magic, capture_text, IsCaptureOf, IsCapture, IsCapturePrefix, OneReading, EndsItself}
+use Rattle.t1s_capture.specs.Captures.{CaptureItem, Gap, Torn, no_symbols, capture_text, IsCaptureOf, IsCapturePrefix, OneReading, EndsItself}
 use Rattle.t1s_capture.specs.Fronts.{Tail, in_gap, in_burst, in_blur, after_torn, ended, Front, in_magic, at_version, at_node, behind, IsFront, front_octets, AreMadeOf}
 use Rattle.t1s_capture.specs.Advance.{count_of}
 use Rattle.t1s_capture.specs.Stands.{needs_blur}
-use Rattle.t1s_capture.proofs.Grow.{Grew, grew, fails, grow}
-use Rattle.t1s_capture.proofs.Sound.{Grows, sound, same_front, no_front}
+use Rattle.t1s_capture.proofs.Grow.{grew, fails, grow}
+use Rattle.t1s_capture.proofs.Sound.{sound, same_front, no_front}
 use Rattle.t1s_capture.proofs.ReadBack.{reads, reads_from, step_on, reads-append, reads-err, reads-front}
 use Rattle.t1s_capture.proofs.FirstOffences.{shorter}
 

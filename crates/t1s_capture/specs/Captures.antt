@@ -1,9 +1,9 @@
 -- What a capture is: the items that a node heard, and the octets that they are written as.
-use Rattle.std.specs.Prelude.{◌≡◌, ◌≢◌, ℕ, ◌*◌, ◌+◌, ◌/◌, ◌%◌, ◌^◌, ◌<◌, ◌≤◌, ◌⊎◌, Bool, true, false, List, [], ◌∷◌, ◌++◌, length, map, sum_by, count_by, All}
+use Rattle.std.specs.Prelude.{◌≡◌, ◌≢◌, ℕ, ◌*◌, ◌+◌, ◌/◌, ◌%◌, ◌^◌, ◌<◌, ◌≤◌, ◌⊎◌, Bool, true, false, List, [], ◌∷◌, ◌++◌, length, map, sum_by, All}
 use Rattle.std.specs.List.{flat_map}
 use Rattle.t1s_symbols.specs.Groups.{group}
-use Rattle.t1s_grammar.specs.Burst.{Piece, IsBurst}
-use Rattle.t1s_grammar.specs.Prefixes.{Beginning, beginning_symbols, IsBeginning, beacon, between, opened, within, ended}
+use Rattle.t1s_grammar.specs.Burst.{IsBurst}
+use Rattle.t1s_grammar.specs.Prefixes.{Beginning, beginning_symbols, IsBeginning, between}
 
 -- One item of a capture. The symbols of an item begin a burst, and are given by what that beginning is made up of.
 pub data CaptureItem : Type 0 where

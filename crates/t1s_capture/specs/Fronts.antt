@@ -1,9 +1,9 @@
 -- What octets that begin a capture are made of.
-use Rattle.std.specs.Prelude.{◌≡◌, ◌≢◌, ℕ, ◌<◌, List, [], ◌∷◌, ◌++◌, take, All}
+use Rattle.std.specs.Prelude.{◌≡◌, ℕ, ◌<◌, List, [], ◌∷◌, ◌++◌, take, All}
 use Rattle.t1s_grammar.specs.Prefixes.{Beginning}
 use Rattle.t1s_capture.specs.declared.stage.CountSoFar.{CountSoFar}
 use Rattle.t1s_capture.specs.declared.stage.CountSoFar.TheVariants.{Nothing, One, Two, Three}
-use Rattle.t1s_capture.specs.Captures.{CaptureItem, Gap, Burst, Torn, IsItemList, begun_text, magic, symbol_octets}
+use Rattle.t1s_capture.specs.Captures.{CaptureItem, Gap, Torn, IsItemList, begun_text, magic, symbol_octets}
 
 -- the octets of a count that is begun
 abbrev pub counted_octets : CountSoFar → List ℕ

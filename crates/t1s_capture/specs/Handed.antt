@@ -4,7 +4,7 @@ use Rattle.t1s_scramble.specs.Scrambled.{descrambler_after}
 use Rattle.t1s_grammar.specs.Burst.{Piece, IsBurst, pieces_symbols}
 use Rattle.t1s_grammar.specs.Prefixes.{Beginning, beginning_symbols, beacon, between, opened, within, ended}
 use Rattle.t1s_pcs_rx.specs.Views.{View, view_of}
-use Rattle.t1s_capture.specs.Captures.{CaptureItem, Burst, Torn, ticks_of, symbol_count}
+use Rattle.t1s_capture.specs.Captures.{CaptureItem, Torn, ticks_of, symbol_count}
 use Rattle.t1s_capture.specs.Pieces.{history_behind, pieces_nibbles}
 use Rattle.t1s_capture.specs.Fronts.{in_burst, after_torn, behind, AreMadeOf}
 

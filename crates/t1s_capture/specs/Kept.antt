@@ -1,5 +1,4 @@
 -- The item that a kept one is.
-use Rattle.std.specs.Prelude.{ℕ, List}
 use Rattle.t1s_pcs_rx.specs.Views.{View, view_shown}
 use Rattle.t1s_capture.specs.declared.items.Item.{Item}
 use Rattle.t1s_capture.specs.declared.items.Item.TheVariants.{Piece as LentPiece, Beacon as LentBeacon, Run as LentRun, Bare as LentBare, Torn as LentTorn}

@@ -10,3 +10,6 @@ pub mod Advance
 pub mod Ranges
 pub mod Marks
 pub mod Kept
+pub mod Growing
+pub mod Cut
+pub mod Writing

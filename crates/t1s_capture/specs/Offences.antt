@@ -7,7 +7,7 @@ use Rattle.t1s_capture.specs.declared.items.Why.{Why}
 use Rattle.t1s_capture.specs.declared.items.Why.TheVariants.{Magic, Version, NodeByte, CountZero, GapTwice, Group, Place, BurstLong, Truncated, AfterEnd, TooLong}
 use Rattle.t1s_capture.specs.declared.stage.CountSoFar.TheVariants.{Three}
 use Rattle.t1s_capture.specs.Captures.{CaptureItem, Gap, NeedsBlur, no_symbols, IsCapture, IsCapturePrefix}
-use Rattle.t1s_capture.specs.Fronts.{Tail, in_gap, in_burst, in_blur, after_torn, ended, behind, AreMadeOf}
+use Rattle.t1s_capture.specs.Fronts.{Tail, in_gap, in_burst, in_blur, after_torn, behind, AreMadeOf}
 
 -- an item or a symbol may be tried: behind the header, behind an item that is complete, and behind a symbol
 abbrev pub IsOpenTail : Tail → Type 0

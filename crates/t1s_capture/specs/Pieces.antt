@@ -1,10 +1,10 @@
 -- The pieces of a capture, and what is counted in it. The descrambler goes on through the whole capture: every nibble of
 -- it moves the descrambler, and nothing else does.
-use Rattle.std.specs.Prelude.{ℕ, ◌+◌, Bool, true, false, List, [], ◌∷◌, ◌++◌, length, count_by}
+use Rattle.std.specs.Prelude.{ℕ, Bool, true, false, List, [], ◌∷◌, ◌++◌, length, count_by}
 use Rattle.std.specs.List.{flat_map}
 use Rattle.t1s_scramble.specs.Scrambled.{start_history, descrambler_after}
 use Rattle.t1s_grammar.specs.Burst.{Piece}
-use Rattle.t1s_grammar.specs.Prefixes.{Beginning, whole_pieces, last_nibbles, beacon, between, opened, within, ended}
+use Rattle.t1s_grammar.specs.Prefixes.{Beginning, whole_pieces, last_nibbles, beacon, between}
 use Rattle.t1s_pcs_rx.specs.Views.{View, view_of}
 use Rattle.t1s_pcs_rx.specs.declared.piece.Kind.{Kind}
 use Rattle.t1s_pcs_rx.specs.declared.piece.Kind.TheVariants.{Good, BadFcs, Odd, Runt, NoSfd, Errored, Jabber}

@@ -7,7 +7,6 @@ use Rattle.t1s_grammar.specs.Steps.{nibbles_at}
 use Rattle.t1s_capture.specs.declared.stage.CountSoFar.{CountSoFar}
 use Rattle.t1s_capture.specs.declared.stage.CountSoFar.TheVariants.{Nothing, One, Two, Three}
 use Rattle.t1s_capture.specs.declared.stage.BurstSoFar.{BurstSoFar}
-use Rattle.t1s_capture.specs.declared.stage.BlurSoFar.{BlurSoFar}
 use Rattle.t1s_capture.specs.declared.stage.Stage.{Stage}
 use Rattle.t1s_capture.specs.declared.stage.Stage.TheVariants.{Magic, Version, Node, InGap, InBurst, InBlur, AfterTorn, Ended}
 use Rattle.t1s_capture.specs.declared.progress.Progress.{Progress}

@@ -7,7 +7,6 @@ use Rattle.t1s_grammar.specs.Steps.{ends_burst}
 use Rattle.t1s_pcs_rx.specs.Views.{View}
 use Rattle.t1s_capture.specs.declared.items.Counts.{Counts}
 use Rattle.t1s_capture.specs.declared.stage.BurstSoFar.{BurstSoFar}
-use Rattle.t1s_capture.specs.declared.stage.BlurSoFar.{BlurSoFar}
 use Rattle.t1s_capture.specs.declared.stage.Stage.{Stage}
 use Rattle.t1s_capture.specs.declared.stage.Stage.TheVariants.{Magic, Version, Node, InGap, InBurst, InBlur, AfterTorn, Ended}
 use Rattle.t1s_capture.specs.Captures.{CaptureItem, is_gap, no_symbols, symbol_count}

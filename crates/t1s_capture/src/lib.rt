@@ -6,17 +6,28 @@
 //! reasons in `specs/Offences.antt`, the pieces and counts of a capture in `specs/Pieces.antt`, the items that are handed
 //! out and their octets in `specs/Handed.antt`, what a decoder stands for in `specs/Stands.antt`, and what its answers
 //! say in `specs/Answers.antt`.
+//!
+//! [`CaptureWriter`] writes a capture: the octets that it gives out are together the text of the items that `cut` in
+//! `specs/Cut.antt` cuts from the ticks that were handed in. What it keeps and what it stands for is in
+//! `specs/Writing.antt`. That octets have one reading, and that no capture begins another, are laws, in the module `laws`.
 #![tactic(auto)]
 
 mod decoder;
 mod items;
 mod kept;
 pub mod laws;
+mod octets;
 mod progress;
 mod reader;
+mod row;
 mod stage;
 #[cfg(test)]
 mod tests;
+mod writer;
+#[cfg(test)]
+mod writer_tests;
 
 pub use decoder::{Decoder, Held, Next};
 pub use items::{Counts, Item, Refusal, Why};
+pub use octets::Octets;
+pub use writer::CaptureWriter;

@@ -1,5 +1,5 @@
 -- The end of the octets: the counts where they are a capture, and else that they are cut short.
-use Rattle.std.proofs.Common.{◌≡◌, subst, sym}
+use Rattle.std.proofs.Common.{subst, sym}
 use Rattle.t1s_capture.proofs.Steps.{Answer, EndIs, end_is}
 use Rattle.t1s_capture.proofs.decoder.Decoder.finish.Goals as goal
 

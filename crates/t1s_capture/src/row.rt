@@ -1,0 +1,196 @@
+//! The row of ticks that a writer is in: a gap, or a burst that it reads.
+ghost use Rattle.std.specs.Prelude.{◌≡◌, ◌≤◌, ◌+◌, ◌<◌, ◌∷◌, ℕ, IfSome};
+ghost use Rattle.t1s_symbols.specs.Ranges.{IsSymbol, IsQuarter};
+ghost use Rattle.t1s_symbols.specs.Groups.{same_symbol};
+ghost use Rattle.t1s_grammar.specs.Steps.{place_step};
+ghost use Rattle.t1s_capture.specs.Captures.{count_octets};
+ghost use Rattle.t1s_capture.specs.Writing.{reading_step, quarter_step, symbol_ends, follows, ticks_begun, nothing_read, reading_end, row_end, sound_step, silent_step, RowFits};
+
+use crate::octets::Octets;
+use t1s_grammar::Place;
+use t1s_symbols::{Quarter, Symbol, group_of};
+
+/// Begins a gap.
+const GAP: u8 = 0x20;
+/// Ends the symbols of a torn burst.
+const TORN: u8 = 0x22;
+/// The last part of a symbol.
+const LAST_PART: u8 = 3;
+/// The ticks of a symbol.
+const SYMBOL_TICKS: u32 = 4;
+
+/// A burst as it is read.
+#[derive(Drop)]
+pub struct ReadingSoFar {
+    /// The place in the grammar behind the symbols so far.
+    pub place: Place,
+    /// The last quarter of the symbol that has begun.
+    pub last: Option<Quarter>,
+}
+
+/// A row of ticks so far.
+#[derive(Drop)]
+pub enum RowSoFar {
+    /// No tick yet.
+    Empty,
+    /// So many silent ticks.
+    Silent(u32),
+    /// A burst whose reading goes on.
+    Reading(ReadingSoFar),
+    /// A burst whose reading has ended, with so many ticks behind its symbols.
+    Torn(u32),
+}
+
+/// The ticks of the symbol that has begun.
+fn ticks_begun(last: Option<Quarter>) -> u32
+    ensures value { result ≡ ticks_begun last }
+    ensures range { result ≤ 256 }
+{
+    match last {
+        None => 0,
+        Some(quarter) => quarter.part as u32 + 1,
+    }
+}
+
+/// Whether a quarter goes on behind the last one of its symbol, or begins a symbol.
+fn follows(last: Option<Quarter>, quarter: Quarter) -> bool
+    ensures { result ≡ follows last quarter }
+{
+    match last {
+        None => quarter.part == 0,
+        Some(before) => {
+            same_symbol(before.sym, quarter.sym) && quarter.part as u32 == before.part as u32 + 1
+        }
+    }
+}
+
+fn same_symbol(a: Symbol, b: Symbol) -> bool
+    ensures { result ≡ same_symbol a b }
+{
+    match (a, b) {
+        (Symbol::Nibble(m), Symbol::Nibble(n)) => m == n,
+        (Symbol::J, Symbol::J)
+        | (Symbol::K, Symbol::K)
+        | (Symbol::T, Symbol::T)
+        | (Symbol::R, Symbol::R)
+        | (Symbol::H, Symbol::H)
+        | (Symbol::N, Symbol::N)
+        | (Symbol::S, Symbol::S) => true,
+        _ => false,
+    }
+}
+
+impl ReadingSoFar {
+    /// Nothing is read yet.
+    fn start() -> ReadingSoFar
+        ensures { result ≡ nothing_read }
+    {
+        ReadingSoFar {
+            place: Place::start(),
+            last: None,
+        }
+    }
+
+    /// A tick with this quarter, or with none that can be read.
+    fn hears(self, quarter: Option<Quarter>) -> (RowSoFar, Octets)
+        requires { IfSome quarter IsQuarter }
+        ensures step { result ≡ reading_step self quarter }
+        ensures fits { (ticks : ℕ) → RowFits ticks result.0 }
+    {
+        match quarter {
+            Some(quarter) => self.hears_quarter(quarter),
+            None => (RowSoFar::Torn(ticks_begun(self.last) + 1), Octets::new()),
+        }
+    }
+
+    fn hears_quarter(self, quarter: Quarter) -> (RowSoFar, Octets)
+        requires { IsQuarter quarter }
+        ensures step { result ≡ quarter_step self quarter }
+        ensures fits { (ticks : ℕ) → RowFits ticks result.0 }
+    {
+        if !follows(self.last, quarter) {
+            return (RowSoFar::Torn(ticks_begun(self.last) + 1), Octets::new());
+        }
+        let ReadingSoFar { place, .. } = self;
+        if quarter.part == LAST_PART {
+            return symbol_ends(place, quarter.sym);
+        }
+        let reading = ReadingSoFar {
+            place,
+            last: Some(quarter),
+        };
+        (RowSoFar::Reading(reading), Octets::new())
+    }
+
+    /// What the end of the row gives out.
+    fn end(&self) -> Octets
+        ensures { result ≡ reading_end self.now }
+    {
+        let blur = ticks_begun(self.last);
+        if blur == 0 && self.place.is_burst() {
+            return Octets::new();
+        }
+        Octets::counted(TORN, blur)
+    }
+}
+
+/// A symbol is complete, which may stand there or not.
+fn symbol_ends(place: Place, symbol: Symbol) -> (RowSoFar, Octets)
+    requires { IsSymbol symbol }
+    ensures step { result ≡ symbol_ends symbol (place_step place symbol) }
+    ensures fits { (ticks : ℕ) → RowFits ticks result.0 }
+{
+    match place.take(symbol) {
+        Ok(place) => (
+            RowSoFar::Reading(ReadingSoFar { place, last: None }),
+            Octets::one(group_of(symbol)),
+        ),
+        Err(_) => (RowSoFar::Torn(SYMBOL_TICKS), Octets::new()),
+    }
+}
+
+impl RowSoFar {
+    /// What the end of the row gives out.
+    pub fn end(&self) -> Octets
+        ensures { result ≡ row_end self.now }
+    {
+        match self {
+            RowSoFar::Empty => Octets::new(),
+            RowSoFar::Silent(ticks) => Octets::counted(GAP, *ticks),
+            RowSoFar::Reading(reading) => reading.end(),
+            RowSoFar::Torn(blur) => Octets::counted(TORN, *blur),
+        }
+    }
+
+    /// A silent tick.
+    pub fn hears_silence(self) -> (RowSoFar, Octets)
+        requires { RowFits 2000000 self }
+        ensures step { result ≡ silent_step self }
+        ensures fits { (ticks : ℕ) → RowFits ticks self → RowFits (ticks + 1) result.0 }
+    {
+        match self {
+            RowSoFar::Empty => (RowSoFar::Silent(1), Octets::new()),
+            RowSoFar::Silent(ticks) => (RowSoFar::Silent(ticks + 1), Octets::new()),
+            RowSoFar::Reading(reading) => (RowSoFar::Silent(1), reading.end()),
+            RowSoFar::Torn(blur) => (RowSoFar::Silent(1), Octets::counted(TORN, blur)),
+        }
+    }
+
+    /// A tick with this quarter, or with something that cannot be read.
+    pub fn hears_sound(self, quarter: Option<Quarter>) -> (RowSoFar, Octets)
+        requires range { IfSome quarter IsQuarter }
+        requires fits { RowFits 2000000 self }
+        ensures step { result ≡ sound_step self quarter }
+        ensures fits { (ticks : ℕ) → RowFits ticks self → RowFits (ticks + 1) result.0 }
+    {
+        match self {
+            RowSoFar::Empty => ReadingSoFar::start().hears(quarter),
+            RowSoFar::Silent(ticks) => {
+                let (row, _) = ReadingSoFar::start().hears(quarter);
+                (row, Octets::counted(GAP, ticks))
+            }
+            RowSoFar::Reading(reading) => reading.hears(quarter),
+            RowSoFar::Torn(blur) => (RowSoFar::Torn(blur + 1), Octets::new()),
+        }
+    }
+}

@@ -1,0 +1,125 @@
+//! The writer of captures.
+use crate::octets::Octets;
+use crate::row::RowSoFar;
+use std::marker::Model;
+use std::mem::replace;
+use t1s_symbols::Heard;
+
+/// Ends a capture.
+const END: u8 = 0x21;
+
+/// Writes what a node hears, tick by tick, as a capture.
+#[derive(Drop)]
+pub struct CaptureWriter {
+    node: u8,
+    ticks: u32,
+    row: RowSoFar,
+}
+
+impl Model for CaptureWriter {
+    ghost use Rattle.t1s_capture.specs.Writing.{WriterState};
+
+    ghost Value = { WriterState };
+
+    ghost use Rattle.t1s_capture.specs.Writing.{WriterFits};
+
+    ghost view = { λ w. record {
+      node = w.node;
+      ticks = w.ticks;
+      row = w.row;
+    } };
+
+    ghost invariant = { λ w. WriterFits w.node w.ticks w.row };
+}
+
+impl CaptureWriter {
+    ghost use Rattle.std.specs.Prelude.{◌≡◌, ◌+◌, ◌<◌, ℕ, List, [], ◌∷◌, ◌++◌};
+    ghost use Rattle.t1s_symbols.specs.Ranges.{IsHeard};
+    ghost use Rattle.t1s_capture.specs.Captures.{header, capture_text};
+    ghost use Rattle.t1s_capture.specs.Cut.{Tick, cut};
+    ghost use Rattle.t1s_capture.specs.Writing.{Writes, row_step, row_end};
+    ghost use Rattle.t1s_capture.specs.declared.row.RowSoFar.TheVariants.{Empty};
+
+    /// A writer for this node, which has been handed no tick.
+    pub fn new(node: u8) -> CaptureWriter
+        requires { node < 16 }
+        ensures value { result ≡ record { node = node; ticks = 0; row = Empty } }
+        ensures stands { Writes [] [] result }
+    {
+        CaptureWriter {
+            node,
+            ticks: 0,
+            row: RowSoFar::Empty,
+        }
+    }
+
+    /// What a capture begins with: six octets.
+    pub fn head(&self) -> Octets
+        ensures { result ≡ header self.now.node }
+    {
+        Octets::new()
+            .with(b'T')
+            .with(b'1')
+            .with(b'S')
+            .with(b'C')
+            .with(1)
+            .with(self.node)
+    }
+
+    /// Takes what the node heard in the next tick, and whether it drove in it. The octets go behind those that were
+    /// given out before.
+    pub fn heard(&mut self, h: Heard, own: bool) -> Octets
+        requires heard { IsHeard h }
+        requires fewer { self.old.ticks < 2000000 }
+        ensures node { self.new.node ≡ self.old.node }
+        ensures ticks { self.new.ticks ≡ self.old.ticks + 1 }
+        ensures stands { (ticks : List Tick) (given : List ℕ) → Writes ticks given self.old
+            → Writes (ticks ++ (h, own) ∷ []) (given ++ result) self.new }
+    {
+        self.go_on(h, own)
+    }
+
+    /// The last octets. The header, the octets that were given out for the ticks, and these are the text of the items
+    /// that are cut from the ticks.
+    pub fn finish(self) -> Octets
+        ensures text { (ticks : List Tick) (given : List ℕ) → Writes ticks given self
+            → header self.node ++ (given ++ result) ≡ capture_text self.node (cut ticks) }
+    {
+        self.last_octets()
+    }
+
+    /// How many ticks were handed in.
+    #[cfg(test)]
+    pub(crate) fn ticks(&self) -> u32
+        ensures { result ≡ self.now.ticks }
+    {
+        self.ticks
+    }
+
+    /// The last octets, by the row.
+    fn last_octets(self) -> Octets
+        ensures { result ≡ row_end self.row ++ 0x21 ∷ [] }
+    {
+        self.row.end().with(END)
+    }
+
+    /// The tick by the row.
+    fn go_on(&mut self, h: Heard, own: bool) -> Octets
+        requires heard { IsHeard h }
+        requires fewer { self.old.ticks < 2000000 }
+        ensures node { self.new.node ≡ self.old.node }
+        ensures ticks { self.new.ticks ≡ self.old.ticks + 1 }
+        ensures row { self.new.row ≡ (row_step self.old.row (h, own)).0 }
+        ensures octets { result ≡ (row_step self.old.row (h, own)).1 }
+    {
+        let row = replace(&mut self.row, RowSoFar::Empty);
+        let (row, octets) = match h {
+            Heard::Nothing => row.hears_silence(),
+            Heard::One(quarter) if !own => row.hears_sound(Some(quarter)),
+            _ => row.hears_sound(None),
+        };
+        self.row = row;
+        self.ticks += 1;
+        octets
+    }
+}

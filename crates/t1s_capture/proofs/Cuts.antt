@@ -180,14 +180,14 @@ goes_same x t xs e = by_kind (is_silent x) e
     by_kind true k = k
     by_kind false k = negated (is_silent t) k
 
-goes_apart : (x t : Tick) (xs : List Tick) → goes_on (x ∷ xs) t ≡ false → is_silent t ≡ not (is_silent x)
+pub goes_apart : (x t : Tick) (xs : List Tick) → goes_on (x ∷ xs) t ≡ false → is_silent t ≡ not (is_silent x)
 goes_apart x t xs e = by_kind (is_silent x) e
   where
     by_kind : (b : Bool) → (if b then is_silent t else not (is_silent t)) ≡ false → is_silent t ≡ not b
     by_kind true k = k
     by_kind false k = negated_not (is_silent t) k
 
-row_push : (row : List Tick) (t : Tick) → IsRow row → goes_on row t ≡ true → IsRow (row ++ t ∷ [])
+pub row_push : (row : List Tick) (t : Tick) → IsRow row → goes_on row t ≡ true → IsRow (row ++ t ∷ [])
 row_push [] t h e = tt
 row_push (x ∷ xs) t h e = AreSilent-push (is_silent x) xs t h (goes_same x t xs e)
 

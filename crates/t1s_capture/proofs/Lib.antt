@@ -13,3 +13,4 @@ pub mod ItemOctets
 pub mod Steps
 pub mod Rows
 pub mod Cuts
+pub mod CutItems

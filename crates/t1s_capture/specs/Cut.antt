@@ -1,15 +1,16 @@
 -- The items that are cut from what a node heard, tick by tick.
-use Rattle.std.specs.Prelude.{ℕ, ◌*◌, ◌-◌, ◌==◌, ◌&&◌, Bool, true, false, not, List, [], ◌∷◌, ◌++◌, length, Option, None, Some, Result, Ok, Err, if◌then◌else◌}
+use Rattle.std.specs.Prelude.{◌^◌, ◌<◌, ◌≡◌, ℕ, ◌*◌, ◌-◌, ◌==◌, ◌&&◌, Bool, true, false, not, List, [], ◌∷◌, ◌++◌, length, Option, None, Some, Result, Ok, Err, if◌then◌else◌}
 use Rattle.t1s_symbols.specs.declared.Symbol.{Symbol}
 use Rattle.t1s_symbols.specs.declared.Quarter.{Quarter}
 use Rattle.t1s_symbols.specs.declared.Heard.{Heard}
 use Rattle.t1s_symbols.specs.declared.Heard.TheVariants.{Nothing, One, Many}
 use Rattle.t1s_symbols.specs.Groups.{same_symbol}
+use Rattle.t1s_symbols.specs.Ranges.{IsHeard}
 use Rattle.t1s_grammar.specs.Prefixes.{Beginning, phase_of}
 use Rattle.t1s_grammar.specs.Steps.{place_step, ends_burst}
 use Rattle.t1s_grammar.specs.declared.place.Phase.{Phase}
 use Rattle.t1s_grammar.specs.declared.place.PlaceFault.{PlaceFault}
-use Rattle.t1s_capture.specs.Captures.{CaptureItem, Gap, Burst, Torn, no_symbols, symbol_count}
+use Rattle.t1s_capture.specs.Captures.{CaptureItem, Gap, Burst, Torn, no_symbols, symbol_count, IsItemList, ticks_of}
 use Rattle.t1s_capture.specs.Growing.{grown}
 
 -- what a node hears in a tick, and whether it drives itself
@@ -86,3 +87,17 @@ cut_from row (t ∷ ts) = if goes_on row t then cut_from (row ++ t ∷ []) ts el
 -- torn burst
 unfoldable pub cut : List Tick → List CaptureItem
 cut ticks = cut_from [] ticks
+
+-- what is heard in these ticks is in range
+abbrev pub AreHeard : List Tick → Type 0
+AreHeard [] = Unit {0}
+AreHeard (t ∷ ts) = IsHeard t.0 × AreHeard ts
+
+-- what is cut from ticks may stand in a capture, and lasts as long as the ticks
+pub record IsCut (ticks : List Tick) : Type 0 where
+  pub valid : IsItemList (cut ticks)
+  pub lasts : ticks_of (cut ticks) ≡ length ticks
+
+-- this holds of all ticks, where they are so few that their counts fit four octets
+abbrev pub CutsAreCaptures : Type 0
+CutsAreCaptures = (ticks : List Tick) → AreHeard ticks → length ticks < 2 ^ 32 → IsCut ticks

@@ -29,7 +29,7 @@ use Rattle.t1s_capture.proofs.Texts.{last_of, no_last}
 use Rattle.t1s_capture.proofs.Marks.{IsMarked, marked}
 use Rattle.t1s_capture.proofs.Grow.{Grew, grew, fails, grow, grow_magic, grow_version, grow_blur, grow_burst, grow_symbol, grow_torn, end_blur, item_at, piece_item, closer_item, symbol_item, burst_item_at, whole_burst_item, blur_item_at, torn_item}
 use Rattle.t1s_capture.proofs.Sound.{same_front, no_front, unstopped, is_burst, burst_ends, begun}
-use Rattle.t1s_capture.proofs.Whole.{made_once, made_more, grown_from}
+use Rattle.t1s_capture.proofs.Whole.{made_once, made_more, grown_from, same_items}
 
 -- ---- an item that is handed out is at its octet
 
@@ -433,3 +433,66 @@ item_within octets o (BeaconItem start) h = h.within_limit
 item_within octets o (RunItem start end pieces) h = h.within_limit
 item_within octets o (BareItem start end) h = h.within_limit
 item_within octets o (TornItem start end symbols blur) h = h.within_limit
+
+-- ---- an octet hands out one item at most
+
+-- where it is known what the octets before it are made of
+one_by_front : (octets : List ℕ) (f : Front) (o : ℕ) (x y : Handed) → AreMadeOf octets f → IsItemOctet octets o x → IsItemOctet octets o y → x ≡ y
+one_by_front octets f o x y m h k =
+    let a = hands_here octets f o x m h in let b = hands_here octets f o y m k in same_item x y (sym a.hands ∙ b.hands)
+
+-- the octets up to a closer are no others than those up to the end of a torn burst
+closed_or_torn : (octets : List ℕ) (o start : ℕ) (view : View) (start' end symbols blur : ℕ) → IsPieceOctet octets o start view → IsTornOctet octets o start' end symbols blur → ⊥
+closed_or_torn octets o start view start' end symbols blur h k =
+    let t = same_items h.node k.node h.items (k.items ++ Torn k.begun blur ∷ []) (in_burst (between (h.pieces ++ h.piece ∷ []) 0)) after_torn
+    (made_once (octets ++ o ∷ []) (piece_front h.node h.items h.pieces h.piece) (behind k.node (k.items ++ Torn k.begun blur ∷ []) after_torn) h.made k.made) in
+    let e = t.2 in cc
+
+one_piece : (octets : List ℕ) (o start start' : ℕ) (view view' : View) → IsPieceOctet octets o start view → IsPieceOctet octets o start' view' → PieceItem start view ≡ PieceItem start' view'
+one_piece octets o start start' view view' h k =
+    let t = same_items h.node k.node h.items k.items (in_burst (between (h.pieces ++ h.piece ∷ []) 0)) (in_burst (between (k.pieces ++ k.piece ∷ []) 0))
+    (made_once (octets ++ o ∷ []) (piece_front h.node h.items h.pieces h.piece) (piece_front k.node k.items k.pieces k.piece) h.made k.made) in
+    let items = t.1 in
+    let tails = t.2 in
+    let lists : h.pieces ++ h.piece ∷ [] ≡ k.pieces ++ k.piece ∷ [] = cc in
+    let last = last_of h.pieces k.pieces h.piece k.piece lists in
+    let pieces = last.0 in
+    let piece = last.1 in
+    let a = h.starts in
+    let b = h.shows in
+    let c = k.starts in
+    let d = k.shows in
+    cc
+
+one_torn : (octets : List ℕ) (o start start' end end' symbols symbols' blur blur' : ℕ) → IsTornOctet octets o start end symbols blur → IsTornOctet octets o start' end' symbols' blur' →
+    TornItem start end symbols blur ≡ TornItem start' end' symbols' blur'
+one_torn octets o start start' end end' symbols symbols' blur blur' h k =
+    let t = same_items h.node k.node (h.items ++ Torn h.begun blur ∷ []) (k.items ++ Torn k.begun blur' ∷ []) after_torn after_torn
+    (made_once (octets ++ o ∷ []) (torn_front h.node h.items h.begun blur) (torn_front k.node k.items k.begun blur') h.made k.made) in
+    let last = last_of h.items k.items (Torn h.begun blur) (Torn k.begun blur') t.1 in
+    let items = last.0 in
+    let torn = last.1 in
+    let begun' : h.begun ≡ k.begun = cc in
+    let blurs : blur ≡ blur' = cc in
+    let a = h.starts in
+    let b = h.ends in
+    let c = h.counted in
+    let d = k.starts in
+    let e = k.ends in
+    let f = k.counted in
+    cc
+
+pub one_item : (octets : List ℕ) (o : ℕ) (x y : Handed) → IsItemOctet octets o x → IsItemOctet octets o y → x ≡ y
+one_item octets o (BeaconItem start) y h k = one_by_front octets (behind h.node h.items (in_burst h.symbols)) o (BeaconItem start) y h.made h k
+one_item octets o (RunItem start end pieces) y h k = one_by_front octets (behind h.node h.items (in_burst h.symbols)) o (RunItem start end pieces) y h.made h k
+one_item octets o (BareItem start end) y h k = one_by_front octets (behind h.node h.items (in_burst h.symbols)) o (BareItem start end) y h.made h k
+one_item octets o (PieceItem start view) (BeaconItem start') h k = one_by_front octets (behind k.node k.items (in_burst k.symbols)) o (PieceItem start view) (BeaconItem start') k.made h k
+one_item octets o (PieceItem start view) (RunItem start' end pieces) h k = one_by_front octets (behind k.node k.items (in_burst k.symbols)) o (PieceItem start view) (RunItem start' end pieces) k.made h k
+one_item octets o (PieceItem start view) (BareItem start' end) h k = one_by_front octets (behind k.node k.items (in_burst k.symbols)) o (PieceItem start view) (BareItem start' end) k.made h k
+one_item octets o (PieceItem start view) (PieceItem start' view') h k = one_piece octets o start start' view view' h k
+one_item octets o (PieceItem start view) (TornItem start' end symbols blur) h k = absurd (closed_or_torn octets o start view start' end symbols blur h k)
+one_item octets o (TornItem start end symbols blur) (BeaconItem start') h k = one_by_front octets (behind k.node k.items (in_burst k.symbols)) o (TornItem start end symbols blur) (BeaconItem start') k.made h k
+one_item octets o (TornItem start end symbols blur) (RunItem start' end' pieces) h k = one_by_front octets (behind k.node k.items (in_burst k.symbols)) o (TornItem start end symbols blur) (RunItem start' end' pieces) k.made h k
+one_item octets o (TornItem start end symbols blur) (BareItem start' end') h k = one_by_front octets (behind k.node k.items (in_burst k.symbols)) o (TornItem start end symbols blur) (BareItem start' end') k.made h k
+one_item octets o (TornItem start end symbols blur) (PieceItem start' view) h k = absurd (closed_or_torn octets o start' view start end symbols blur k h)
+one_item octets o (TornItem start end symbols blur) (TornItem start' end' symbols' blur') h k = one_torn octets o start start' end end' symbols symbols' blur blur' h k

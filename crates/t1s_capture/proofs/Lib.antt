@@ -14,3 +14,4 @@ pub mod Steps
 pub mod Rows
 pub mod Cuts
 pub mod CutItems
+pub mod Beyond

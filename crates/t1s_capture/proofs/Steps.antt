@@ -37,6 +37,10 @@ taken_is at_version t = refl
 taken_is at_node t = refl
 taken_is (behind node items tail) t = refl
 
+-- a decoder has taken all the octets that it stands for
+pub taken_all : (octets : List ℕ) (d : DecoderState) → Stands octets d → d.taken ≡ length octets
+taken_all octets d s = ap (λ (x : DecoderState). x.taken) s.keeps ∙ taken_is s.front (length octets)
+
 too_long : ℕ → Next
 too_long t = Refused (record { offset = t; why = TooLong })
 

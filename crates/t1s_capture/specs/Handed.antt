@@ -16,6 +16,14 @@ pub data Handed : Type 0 where
   BareItem : (start end : ℕ) → Handed
   TornItem : (start end symbols blur : ℕ) → Handed
 
+-- the octets of the frame that an item shows, frame check sequence included; a piece that is not good shows none
+abbrev pub handed_frame : Handed → List ℕ
+handed_frame (PieceItem start view) = view.frame
+handed_frame (BeaconItem start) = []
+handed_frame (RunItem start end pieces) = []
+handed_frame (BareItem start end) = []
+handed_frame (TornItem start end symbols blur) = []
+
 -- A piece ends with this octet, its closer. It starts with the first J of its lead, directly behind the closer of the
 -- piece before, or with the burst. Whether the burst is torn later does not matter.
 pub record IsPieceOctet (before : List ℕ) (octet start : ℕ) (view : View) : Type 0 where

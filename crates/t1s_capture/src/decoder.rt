@@ -158,7 +158,8 @@ impl Decoder {
 }
 
 impl Held {
-    ghost use Rattle.std.specs.Prelude.{◌≡◌};
+    ghost use Rattle.std.specs.Prelude.{◌≡◌, ◌≤◌, length};
+    ghost use Rattle.t1s_capture.specs.Handed.{handed_frame};
     ghost use Rattle.t1s_capture.specs.Kept.{handed, shown};
 
     /// An item, and the decoder behind it.
@@ -168,9 +169,10 @@ impl Held {
         Held { item, decoder }
     }
 
-    /// The item that is held, lent until the decoder is released.
+    /// The item that is held, lent until the decoder is released. A frame has at most 1522 octets.
     pub fn item(&self) -> Item<'_>
         ensures item { shown result ≡ self.now.item }
+        ensures fits { length (handed_frame (shown result)) ≤ 1522 }
     {
         self.item.lent()
     }

@@ -1,6 +1,7 @@
 //! An item that is held.
-ghost use Rattle.std.specs.Prelude.{◌≡◌};
+ghost use Rattle.std.specs.Prelude.{◌≡◌, ◌≤◌, length};
 ghost use Rattle.t1s_pcs_rx.specs.Views.{view_shown};
+ghost use Rattle.t1s_capture.specs.Handed.{handed_frame};
 ghost use Rattle.t1s_capture.specs.Kept.{handed, kept_view, shown};
 
 use crate::items::Item;
@@ -46,7 +47,8 @@ pub enum KeptItem {
 
 impl KeptPiece {
     fn lent(&self) -> PieceView<'_>
-        ensures { view_shown result ≡ kept_view self.now }
+        ensures view { view_shown result ≡ kept_view self.now }
+        ensures fits { length result.frame.now ≤ 1522 }
     {
         PieceView {
             lead: self.lead,
@@ -61,7 +63,8 @@ impl KeptPiece {
 impl KeptItem {
     /// The item, with its frame lent.
     pub fn lent(&self) -> Item<'_>
-        ensures { shown result ≡ handed self.now }
+        ensures item { shown result ≡ handed self.now }
+        ensures fits { length (handed_frame (shown result)) ≤ 1522 }
     {
         match self {
             KeptItem::Piece { start, piece } => Item::Piece {

@@ -1,0 +1,176 @@
+-- A number of 256 or more is no octet: wherever it stands it is an offence.
+use Rattle.std.proofs.Common.{◌≡◌, ℕ, zero, suc, ◌+◌, ◌^◌, ◌<◌, ◌≤◌, Bool, true, false, List, [], ◌∷◌, ◌++◌, length, map, refl, sym, ap, subst, inl, inr, arith, append_assoc, nat_lt, if◌then◌else◌}
+use Rattle.std.specs.Prelude.{◌==◌, ◌&&◌, slice_index, All}
+use Rattle.std.specs.List.{flat_map}
+use Rattle.std.proofs.lemmas.Bool.{cases_lt, eqb-true, ltb-true, and_parts}
+use Rattle.std.proofs.lemmas.List.Elements.{All-head}
+use Rattle.t1s_symbols.specs.declared.Symbol.{Symbol}
+use Rattle.t1s_symbols.specs.Groups.{group, group_in, group_table, same_symbol}
+use Rattle.t1s_grammar.specs.Prefixes.{beginning_symbols}
+use Rattle.t1s_capture.specs.declared.items.Why.{Why}
+use Rattle.t1s_capture.specs.declared.items.Why.TheVariants.{Magic as BadMagic, Version as BadVersion, NodeByte, Group, Place, AfterEnd, TooLong}
+use Rattle.t1s_capture.specs.declared.stage.Mark.{Mark}
+use Rattle.t1s_capture.specs.declared.stage.Mark.TheVariants.{Gap as GapMark, End, Torn as TornMark, Known, Unknown}
+use Rattle.t1s_capture.specs.Captures.{CaptureItem, Gap, Burst, Torn, magic, header, no_symbols, symbol_octets, item_octets, IsItem, begun_text, IsCapture, IsCapturePrefix}
+use Rattle.t1s_capture.specs.Fronts.{Tail, in_gap, in_burst, in_blur, after_torn, ended, Front, in_magic, at_version, at_node, behind, AreMadeOf}
+use Rattle.t1s_capture.specs.Offences.{IsOpenTail, IsOpen, GrowsTooLong, IsFirstOf, IsFirstOffence}
+use Rattle.t1s_capture.specs.Advance.{mark}
+use Rattle.t1s_capture.specs.State.{DecoderState}
+use Rattle.t1s_capture.specs.Stands.{Stands}
+use Rattle.t1s_capture.proofs.Texts.{All-back}
+use Rattle.t1s_capture.proofs.Marks.{IsMarked, marked}
+use Rattle.t1s_capture.proofs.Grow.{grew, fails, grow, grow_burst, grow_torn}
+use Rattle.t1s_capture.proofs.Whole.{made_once, same_items, made_begins}
+use Rattle.t1s_capture.proofs.Reasons.{grammar_reasons, item_reasons, behind_header, first_reason}
+use Rattle.t1s_capture.proofs.FirstOffences.{broken_here, too_long_here}
+
+-- ---- a capture has octets alone
+
+-- all of these are octets
+abbrev AreLow : List ℕ → Type 0
+AreLow [] = Unit {0}
+AreLow (x ∷ xs) = (x < 256) × AreLow xs
+
+low_append : (xs ys : List ℕ) → AreLow xs → AreLow ys → AreLow (xs ++ ys)
+low_append [] ys h k = k
+low_append (x ∷ xs) ys h k = (h.0, low_append xs ys h.1 k)
+
+low_there : (before : List ℕ) (octet : ℕ) (rest : List ℕ) → AreLow (before ++ octet ∷ rest) → octet < 256
+low_there [] octet rest h = h.0
+low_there (x ∷ before) octet rest h = low_there before octet rest h.1
+
+abbrev low_rows : List (Symbol × ℕ) → Bool
+low_rows [] = true
+low_rows (pair ∷ rows) = nat_lt pair.1 256 && low_rows rows
+
+low_in : (rows : List (Symbol × ℕ)) (s : Symbol) → low_rows rows ≡ true → group_in rows s < 256
+low_in [] s e = omega arith
+low_in (pair ∷ rows) s e =
+    let both = and_parts (nat_lt pair.1 256) (low_rows rows) e in
+    by_test (same_symbol s pair.0) (ltb-true pair.1 256 both.0) (low_in rows s both.1)
+  where
+    by_test : (b : Bool) → pair.1 < 256 → group_in rows s < 256 → (if b then pair.1 else group_in rows s) < 256
+    by_test true h k = h
+    by_test false h k = k
+
+low_group : (s : Symbol) → group s < 256
+unfolding group
+low_group s = low_in group_table s refl
+
+low_groups : (symbols : List Symbol) → AreLow (map group symbols)
+low_groups [] = tt
+low_groups (s ∷ symbols) = (low_group s, low_groups symbols)
+
+low_item : (x : CaptureItem) → IsItem x → AreLow (item_octets x)
+unfolding item_octets
+low_item (Gap n) h =
+    let most = h.1 in
+    (omega arith, (omega arith, (omega arith, (omega arith, (omega arith, tt)))))
+low_item (Burst b) h = low_groups (beginning_symbols b)
+low_item (Torn b n) h =
+    let most = h.1 in
+    low_append (symbol_octets b) _ (low_groups (beginning_symbols b)) (omega arith, (omega arith, (omega arith, (omega arith, (omega arith, tt)))))
+
+low_items : (items : List CaptureItem) → All IsItem items → AreLow (flat_map item_octets items)
+low_items [] h = tt
+low_items (x ∷ items) h =
+    low_append (item_octets x) (flat_map item_octets items) (low_item x (All-head IsItem x items h)) (low_items items (All-back (x ∷ []) items h))
+
+low_capture : (octets : List ℕ) → IsCapture octets → AreLow octets
+low_capture octets (node, items, h) =
+    let range = h.node_in_range in
+    subst AreLow (sym h.text)
+    (low_append (begun_text node items) (0x21 ∷ [])
+    (low_append (header node) (flat_map item_octets items)
+    (omega arith, (omega arith, (omega arith, (omega arith, (omega arith, (omega arith, tt))))))
+    (low_items items h.valid.each))
+    (omega arith, tt))
+
+-- so no capture goes on by any other number
+no_prefix_over : (before : List ℕ) (octet : ℕ) → 256 ≤ octet → IsCapturePrefix (before ++ octet ∷ []) → ⊥
+no_prefix_over before octet high (rest, h) =
+    let low = low_there before octet rest (low_capture (before ++ octet ∷ rest) (subst (λ (o : List ℕ). IsCapture o) (append_assoc before (octet ∷ []) rest) h)) in
+    omega arith
+
+-- ---- the reason
+
+high_mark : (o : ℕ) (k : Mark) → 256 ≤ o → IsMarked o k → k ≡ Unknown
+high_mark o GapMark high is = absurd (omega arith)
+high_mark o End high is = absurd (omega arith)
+high_mark o TornMark high is = absurd (omega arith)
+high_mark o (Known s) high is = let low = low_group s in let at = is.group in absurd (omega arith)
+high_mark o Unknown high is = refl
+
+low_magic : (n : ℕ) → n < 4 → slice_index magic n < 256
+low_magic zero h = omega arith
+low_magic (suc zero) h = omega arith
+low_magic (suc (suc zero)) h = omega arith
+low_magic (suc (suc (suc zero))) h = omega arith
+low_magic (suc (suc (suc (suc n)))) h = absurd (omega arith)
+
+abbrev HasReason : List ℕ → ℕ → Type 0
+HasReason octets o = (why : Why) × IsFirstOf grammar_reasons octets o why
+
+module _ (octets : List ℕ) (o : ℕ) (high : 256 ≤ o) where
+  -- within a count no item and no symbol may be tried
+  in_count : (node : ℕ) (items : List CaptureItem) (tail : Tail) → AreMadeOf octets (behind node items tail) → (IsOpenTail tail → ⊥) → IsFirstOf item_reasons octets o Place
+  in_count node items tail m closed =
+      inr ((λ h. let z = h.1 in omega arith), inr ((λ h. not_open h.0), inr ((λ h. let z = h.1 in omega arith), inr (not_long, inl (tt, refl)))))
+    where
+      same : (node' : ℕ) (items' : List CaptureItem) (tail' : Tail) → AreMadeOf octets (behind node' items' tail') → IsOpenTail tail' → ⊥
+      same node' items' tail' n k =
+          closed (subst (λ (t : Tail). IsOpenTail t) (same_items node' node items' items tail' tail (made_once octets (behind node' items' tail') (behind node items tail) n m)).2 k)
+
+      not_open : IsOpen octets → ⊥
+      not_open h = same h.node h.items h.tail h.made h.tried
+
+      not_long : GrowsTooLong octets o → ⊥
+      not_long h = same h.node h.items (in_burst h.symbols) h.made tt
+
+  by_fail : (f : Front) (why : Why) → AreMadeOf octets f → grow f o ≡ fails why → HasReason octets o
+  by_fail f why m e = (why, first_reason octets f o why m e)
+
+  in_header : (n : ℕ) (p : Bool) → AreMadeOf octets (in_magic n) → (o == slice_index magic n) ≡ p → HasReason octets o
+  in_header n true m e = let low = low_magic n m.in_range in let is = eqb-true o (slice_index magic n) e in absurd (omega arith)
+  in_header n false m e =
+      by_fail (in_magic n) BadMagic m (ap (λ (b : Bool). if b then (if n == 3 then grew at_version else grew (in_magic (n + 1))) else fails BadMagic) e)
+
+  in_version : (p : Bool) → AreMadeOf octets at_version → (o == 1) ≡ p → HasReason octets o
+  in_version true m e = let is = eqb-true o 1 e in absurd (omega arith)
+  in_version false m e = by_fail at_version BadVersion m (ap (λ (b : Bool). if b then grew at_node else fails BadVersion) e)
+
+  in_node : (p : Bool) → AreMadeOf octets at_node → nat_lt o 16 ≡ p → HasReason octets o
+  in_node true m e = let is = ltb-true o 16 e in absurd (omega arith)
+  in_node false m e = by_fail at_node NodeByte m (ap (λ (b : Bool). if b then grew (behind o [] (in_burst no_symbols)) else fails NodeByte) e)
+
+  unknown : mark o ≡ Unknown
+  unknown = high_mark o (mark o) high (marked o)
+
+  over_reason : (f : Front) → AreMadeOf octets f → HasReason octets o
+  over_reason (in_magic n) m = in_header n (o == slice_index magic n) m refl
+  over_reason at_version m = in_version (o == 1) m refl
+  over_reason at_node m = in_node (nat_lt o 16) m refl
+  over_reason (behind node items (in_gap count)) m =
+      (Place, behind_header octets o node items (in_gap count) m Place (λ k. cc) (in_count node items (in_gap count) m (λ k. k)))
+  over_reason (behind node items (in_burst b)) m =
+      by_fail (behind node items (in_burst b)) Group m (ap (λ (k : Mark). grow_burst k node items b) unknown)
+  over_reason (behind node items (in_blur b count)) m =
+      (Place, behind_header octets o node items (in_blur b count) m Place (λ k. cc) (in_count node items (in_blur b count) m (λ k. k)))
+  over_reason (behind node items after_torn) m =
+      by_fail (behind node items after_torn) Group m (ap (λ (k : Mark). grow_torn k node items) unknown)
+  over_reason (behind node items ended) m = by_fail (behind node items ended) AfterEnd m refl
+
+-- behind octets that a decoder stands for, such a number is the first offence
+pub over_offence : (before : List ℕ) (octet : ℕ) (d : DecoderState) → Stands before d → 256 ≤ octet → (why : Why) × IsFirstOffence (before ++ octet ∷ []) (length before) why
+over_offence before octet d s high = elim (cases_lt (length before) (2 ^ 30)) [
+  | inl short ↦
+      let (why, reason) = over_reason before octet high s.front s.made in (
+        why,
+        broken_here before octet (made_begins before s.front s.made) why short (λ k. no_prefix_over before octet high k)
+            (inr ((λ (k : length before ≡ 2 ^ 30). let z : ⊥ = omega arith in z), reason)),
+      )
+  | inr le ↦
+      let limit = s.limit in
+      let full : length before ≡ 2 ^ 30 = omega arith in
+      (TooLong, too_long_here before octet (made_begins before s.front s.made) full)
+]

@@ -1,26 +1,24 @@
 -- The octets behind those that a decoder stands for: one of them, and all of them.
-use Rattle.std.proofs.Common.{◌≡◌, ◌≢◌, ℕ, ◌^◌, ◌<◌, ◌≤◌, ◌⊎◌, List, [], ◌∷◌, ◌++◌, length, take, refl, sym, ap, subst, ◌∙◌, inl, inr, arith, append_assoc}
+use Rattle.std.proofs.Common.{◌≡◌, ℕ, ◌^◌, ◌<◌, ◌≤◌, List, [], ◌∷◌, ◌++◌, length, take, Result, Ok, Err, refl, sym, ap, subst, ◌∙◌, inl, inr, append_assoc}
 use Rattle.std.proofs.Math.Seq.{take-length}
 use Rattle.std.proofs.lemmas.Bool.{cases_lt}
 use Rattle.std.proofs.lemmas.List.{append-nil}
 use Rattle.t1s_capture.specs.declared.items.Counts.{Counts}
 use Rattle.t1s_capture.specs.declared.items.Refusal.{Refusal}
-use Rattle.t1s_capture.specs.declared.items.Why.TheVariants.{Truncated}
 use Rattle.t1s_capture.specs.declared.decoder.Next.{Next}
 use Rattle.t1s_capture.specs.declared.decoder.Next.TheVariants.{More, Held, Refused}
-use Rattle.t1s_capture.specs.declared.stage.Stage.{Stage}
-use Rattle.t1s_capture.specs.declared.stage.Stage.TheVariants.{Magic, Version, Node, First, AfterGap, InGap, InBeacon, Ended}
 use Rattle.t1s_capture.specs.State.{DecoderState}
-use Rattle.t1s_capture.specs.Stands.{Stands}
+use Rattle.t1s_capture.specs.Stands.{Stands, state_of}
+use Rattle.t1s_capture.specs.Fronts.{in_magic}
 use Rattle.t1s_capture.specs.Offences.{IsFirstOffence}
 use Rattle.t1s_capture.specs.Answers.{HandsOut, StandsAfter, IsCountedCapture}
-use Rattle.t1s_capture.specs.Advance.{advance}
+use Rattle.t1s_capture.specs.Advance.{advance, finished}
 use Rattle.t1s_capture.proofs.FirstOffences.{offends_at_end}
-use Rattle.t1s_capture.proofs.Steps.{begins, step_item, step_refused, step_stands, counted, ended_ok, open_err}
+use Rattle.t1s_capture.proofs.Steps.{begins, step_item, step_refused, step_stands, end_is, stands_new}
+use Rattle.t1s_capture.proofs.Beyond.{over_offence}
 use Rattle.t1s_cli.specs.DecodeText.{item_line, end_line, offence_line}
-use Rattle.t1s_cli.specs.Decoded.{IsLineAt, Handed, Silent, IsItemText, IsCaptureText, IsOffenceText, IsDecodedText}
+use Rattle.t1s_cli.specs.Decoded.{IsLineAt, Shown, Silent, IsItemText, IsCaptureText, IsOffenceText, IsDecodedText}
 use Rattle.t1s_cli.proofs.DecodeText.{item_text_more, offence_text}
-use Rattle.t1s_cli.proofs.BeyondOctets.{over_offence}
 
 -- what one octet more leads to
 data OneMore (before : List ℕ) (octet : ℕ) : Type 0 where
@@ -39,7 +37,7 @@ module _ (before : List ℕ) (octet : ℕ) (d : DecoderState) (stands : Stands b
       go (Held held) e =
           Goes held.decoder (item_line held.item)
           (subst (λ (n : Next). StandsAfter (before ++ octet ∷ []) n) e (step_stands before octet d stands low))
-          (Handed held.item ((step_item before octet d stands low held.item).0 (subst (λ (n : Next). HandsOut n held.item) (sym e) refl)) refl)
+          (Shown held.item ((step_item before octet d stands low held.item).0 (subst (λ (n : Next). HandsOut n held.item) (sym e) refl)) refl)
       go (Refused r) e = let h = (step_refused before octet d stands low r).0 e in Offends r h.0 h.1
 
   over : 256 ≤ octet → OneMore before octet
@@ -51,7 +49,7 @@ module _ (before : List ℕ) (octet : ℕ) (d : DecoderState) (stands : Stands b
 -- The octets end here.
 
 within_limit : (octets : List ℕ) (d : DecoderState) → Stands octets d → length octets ≤ 2 ^ 30
-within_limit octets d stands = omega (arith, stands.taken, stands.limit)
+within_limit octets d stands = stands.limit
 
 pub capture_text : (octets : List ℕ) (d : DecoderState) (lines : List ℕ) (counts : Counts) → Stands octets d → IsItemText octets lines → IsCountedCapture octets counts →
     IsCaptureText octets (lines ++ end_line counts)
@@ -76,23 +74,12 @@ truncated_text octets d lines refusal stands items h =
       text_is = refl;
     }
 
-is_ended : (s : Stage) → (s ≡ Ended) ⊎ (s ≢ Ended)
-is_ended (Magic n) = inr (λ e. cc)
-is_ended Version = inr (λ e. cc)
-is_ended Node = inr (λ e. cc)
-is_ended First = inr (λ e. cc)
-is_ended AfterGap = inr (λ e. cc)
-is_ended (InGap count) = inr (λ e. cc)
-is_ended (InBeacon n) = inr (λ e. cc)
-is_ended Ended = inl refl
-
 ended_text : (octets : List ℕ) (d : DecoderState) (lines : List ℕ) → Stands octets d → IsItemText octets lines → (tail : List ℕ) × IsDecodedText octets (lines ++ tail)
-ended_text octets d lines stands items = elim (is_ended d.stage) [
-  | inl is ↦ (end_line (counted d), inl (capture_text octets d lines (counted d) stands items ((ended_ok octets d stands (counted d) is).0 refl)))
-  | inr differs ↦
-      let r : Refusal = record { offset = d.taken; why = Truncated } in
-      (offence_line r, inr (truncated_text octets d lines r stands items ((open_err octets d stands r differs).0 refl)))
-]
+ended_text octets d lines stands items = go (finished d) refl
+  where
+    go : (r : Result Counts Refusal) → finished d ≡ r → (tail : List ℕ) × IsDecodedText octets (lines ++ tail)
+    go (Ok counts) e = (end_line counts, inl (capture_text octets d lines counts stands items (((end_is octets d stands).ok counts).0 e)))
+    go (Err r) e = (offence_line r, inr (truncated_text octets d lines r stands items (((end_is octets d stands).truncated r).0 e)))
 
 -- whatever octets follow, a text follows the lines so far
 pub rest_text : (before : List ℕ) (d : DecoderState) (lines : List ℕ) (rest : List ℕ) → Stands before d → IsItemText before lines →
@@ -119,15 +106,5 @@ rest_text before d lines (octet ∷ rest) stands items =
           (inr (offence_text before octet rest lines r items at h)),
     )
 
-abbrev start_state : DecoderState
-start_state = record { taken = 0; stage = Magic 0; ticks = 0; beacons = 0 }
-
-start_stands : Stands [] start_state
-start_stands = record {
-  taken = refl;
-  limit = omega arith;
-  stage = (omega arith, record { text = refl; no_ticks = refl; no_beacons = refl });
-}
-
 pub has_text : (octets : List ℕ) → (text : List ℕ) × IsDecodedText octets text
-has_text octets = rest_text [] start_state [] octets start_stands refl
+has_text octets = rest_text [] (state_of 0 (in_magic 0)) [] octets stands_new refl

@@ -4,18 +4,18 @@ use Rattle.std.specs.Prelude.{slice_index}
 use Rattle.std.proofs.Math.Seq.{take-append_seam}
 use Rattle.std.proofs.lemmas.List.{append-nil, take-append-le, get_or_append_left}
 use Rattle.t1s_capture.specs.declared.items.Counts.{Counts}
-use Rattle.t1s_capture.specs.declared.items.Item.{Item}
-use Rattle.t1s_capture.specs.declared.items.Item.TheVariants.{Beacon as BeaconItem}
 use Rattle.t1s_capture.specs.declared.items.Refusal.{Refusal}
 use Rattle.t1s_capture.specs.declared.items.Why.{Why}
-use Rattle.t1s_capture.specs.Captures.{CaptureItem, Beacon, IsCapture, IsCapturePrefix, ticks_of}
+use Rattle.t1s_capture.specs.Captures.{CaptureItem, IsCapture, IsCapturePrefix}
+use Rattle.t1s_capture.specs.Pieces.{counts_of}
 use Rattle.t1s_capture.specs.Offences.{IsFirstOf, reasons, Breaks, IsFirstBreak, IsFirstOffence, Broken, Overlong, Short}
-use Rattle.t1s_capture.specs.Answers.{IsItemOctet, IsCountedCapture, counts_of}
+use Rattle.t1s_capture.specs.Handed.{Handed}
+use Rattle.t1s_capture.specs.Answers.{IsCountedCapture}
 use Rattle.t1s_capture.proofs.FirstOffences.{unbroken, one_reason}
-use Rattle.t1s_capture.proofs.Readings.{readings_agree}
-use Rattle.t1s_capture.proofs.Texts.{last_of}
+use Rattle.t1s_capture.proofs.Whole.{readings_agree}
+use Rattle.t1s_capture.proofs.ItemOctets.{one_item}
 use Rattle.t1s_cli.specs.DecodeText.{item_line, end_line, offence_line}
-use Rattle.t1s_cli.specs.Decoded.{IsLineAt, Handed, Silent, AreLinesBehind, IsItemText, IsOffenceText, IsDecodedText}
+use Rattle.t1s_cli.specs.Decoded.{IsLineAt, Shown, Silent, AreLinesBehind, IsItemText, IsOffenceText, IsDecodedText}
 
 -- lines and further lines
 pub lines_more : (before first others a b : List ℕ) → AreLinesBehind before first a → AreLinesBehind (before ++ first) others b → AreLinesBehind before (first ++ others) (a ++ b)
@@ -32,19 +32,10 @@ line_one before octet line at = (line, [], at, refl, sym (append-nil line))
 pub item_text_more : (before : List ℕ) (octet : ℕ) (lines line : List ℕ) → IsItemText before lines → IsLineAt before octet line → IsItemText (before ++ octet ∷ []) (lines ++ line)
 item_text_more before octet lines line h at = lines_more [] before (octet ∷ []) lines line h (line_one before octet line at)
 
--- an octet hands out one item at most
-one_item : (before : List ℕ) (octet : ℕ) (x y : Item) → IsItemOctet before octet x → IsItemOctet before octet y → x ≡ y
-one_item before octet (BeaconItem s) (BeaconItem t) h k =
-    let same = readings_agree (before ++ 0x21 ∷ []) h.node k.node (h.items ++ Beacon ∷ []) (k.items ++ Beacon ∷ [])
-    (record { node_in_range = h.node_in_range; valid = h.valid; text = ap (λ (o : List ℕ). o ++ 0x21 ∷ []) h.text })
-    (record { node_in_range = k.node_in_range; valid = k.valid; text = ap (λ (o : List ℕ). o ++ 0x21 ∷ []) k.text }) in
-    let items : h.items ≡ k.items = (last_of h.items k.items Beacon Beacon same.1).0 in
-    ap BeaconItem ((h.starts ∙ ap (λ (xs : List CaptureItem). ticks_of xs) items) ∙ sym k.starts)
-
 one_line : (before : List ℕ) (octet : ℕ) (a b : List ℕ) → IsLineAt before octet a → IsLineAt before octet b → a ≡ b
-one_line before octet a b (Handed x h e) (Handed y k f) = (e ∙ ap (λ (i : Item). item_line i) (one_item before octet x y h k)) ∙ sym f
-one_line before octet a b (Handed x h e) (Silent none f) = absurd (none x h)
-one_line before octet a b (Silent none e) (Handed y k f) = absurd (none y k)
+one_line before octet a b (Shown x h e) (Shown y k f) = (e ∙ ap (λ (i : Handed). item_line i) (one_item before octet x y h k)) ∙ sym f
+one_line before octet a b (Shown x h e) (Silent none f) = absurd (none x h)
+one_line before octet a b (Silent none e) (Shown y k f) = absurd (none y k)
 one_line before octet a b (Silent none e) (Silent none' f) = e ∙ sym f
 
 one_lines : (before rest a b : List ℕ) → AreLinesBehind before rest a → AreLinesBehind before rest b → a ≡ b

@@ -3,17 +3,17 @@ use Rattle.std.proofs.Common.{◌≡◌, ◌≢◌, ℕ, ◌≤◌, ◌⊎◌, B
 use Rattle.t1s_base.specs.Causes.{Rose}
 use Rattle.t1s_base.specs.Octets.{Grows, GrowsByFront}
 use Rattle.t1s_capture.specs.declared.items.Counts.{Counts}
-use Rattle.t1s_capture.specs.declared.items.Item.{Item}
 use Rattle.t1s_capture.specs.declared.items.Refusal.{Refusal}
 use Rattle.t1s_capture.specs.State.{DecoderState}
 use Rattle.t1s_capture.specs.Stands.{Stands}
 use Rattle.t1s_capture.specs.Offences.{IsFirstOffence}
-use Rattle.t1s_capture.specs.Answers.{IsItemOctet, IsCountedCapture}
+use Rattle.t1s_capture.specs.Handed.{Handed, IsItemOctet}
+use Rattle.t1s_capture.specs.Answers.{IsCountedCapture}
 use Rattle.t1s_cli.specs.declared.status.Status.{Status}
 use Rattle.t1s_cli.specs.declared.status.Status.TheVariants.{Done, Refused, ReadFault, WriteFault, Memory}
 use Rattle.t1s_cli.specs.Answers.{Ends}
 use Rattle.t1s_cli.specs.DecodeText.{item_line, end_line, offence_line}
-use Rattle.t1s_cli.specs.Decoded.{IsLineAt, Handed, Silent, IsCaptureText, IsOffenceText}
+use Rattle.t1s_cli.specs.Decoded.{IsLineAt, Shown, Silent, IsCaptureText, IsOffenceText}
 use Rattle.t1s_cli.specs.Decoding.{IsDecoding, HasDecoded, HasStopped}
 use Rattle.t1s_cli.proofs.Puts.{grows_none, grows_more, front_more, front_wider}
 use Rattle.t1s_cli.proofs.DecodeText.{item_text_more, offence_text}
@@ -42,16 +42,16 @@ module _ {K : Type 0} (written : K → Option (List ℕ)) (faults : K → ℕ) (
           };
         }
 
-    pub silent_on : (octet : ℕ) (next : DecoderState) → Stands (octets ++ octet ∷ []) next → ((item : Item) → IsItemOctet octets octet item → ⊥) →
+    pub silent_on : (octet : ℕ) (next : DecoderState) → Stands (octets ++ octet ∷ []) next → ((item : Handed) → IsItemOctet octets octet item → ⊥) →
         IsDecoding written faults (octets ++ octet ∷ []) next first k
     silent_on octet next stands none = line_more octet next [] k stands (Silent none refl) (grows_none (written k)) refl
 
-    pub handed_on : (octet : ℕ) (next : DecoderState) (item : Item) (k' : K) → Stands (octets ++ octet ∷ []) next → IsItemOctet octets octet item →
+    pub handed_on : (octet : ℕ) (next : DecoderState) (item : Handed) (k' : K) → Stands (octets ++ octet ∷ []) next → IsItemOctet octets octet item →
         Grows (written k) (written k') (item_line item) → faults k' ≡ faults k → IsDecoding written faults (octets ++ octet ∷ []) next first k'
-    handed_on octet next item k' stands at grows kept = line_more octet next (item_line item) k' stands (Handed item at refl) grows kept
+    handed_on octet next item k' stands at grows kept = line_more octet next (item_line item) k' stands (Shown item at refl) grows kept
 
     -- the line of the item at this octet was not taken whole
-    pub stopped_at_item : (octet : ℕ) (next : DecoderState) (item : Item) (k' : K) → Stands (octets ++ octet ∷ []) next → IsItemOctet octets octet item →
+    pub stopped_at_item : (octet : ℕ) (next : DecoderState) (item : Handed) (k' : K) → Stands (octets ++ octet ∷ []) next → IsItemOctet octets octet item →
         GrowsByFront (written k) (written k') (item_line item) → faults k ≤ faults k' → Rose (faults k) (faults k') →
         HasStopped written faults finished (octets ++ octet ∷ []) first k' WriteFault
     stopped_at_item octet next item k' stands at front later rose =
@@ -61,7 +61,7 @@ module _ {K : Type 0} (written : K → Option (List ℕ)) (faults : K → ℕ) (
         record {
           early = λ e. cc;
           ends = λ more.
-              let (tail, text) = rest_text (octets ++ octet ∷ []) next (s.lines ++ line) more stands (item_text_more octets octet s.lines line s.items (Handed item at refl)) in
+              let (tail, text) = rest_text (octets ++ octet ∷ []) next (s.lines ++ line) more stands (item_text_more octets octet s.lines line s.items (Shown item at refl)) in
               record {
                 answer = inr (inr refl);
                 done = λ e. cc;

@@ -4,7 +4,6 @@ pub mod Text
 pub mod Ends
 mod ThinScripts
 pub mod WholeInput
-pub mod BeyondOctets
 pub mod DecodeText
 pub mod DecodeSteps
 pub mod DecodingLemmas

@@ -10,3 +10,15 @@ pub seven_counts : (w1 d1 w2 d2 w3 d3 w4 d4 w5 d5 w6 d6 w7 d7 e : List ℕ) →
     w1 ++ d1 ++ w2 ++ d2 ++ w3 ++ d3 ++ w4 ++ d4 ++ w5 ++ d5 ++ w6 ++ d6 ++ w7 ++ d7 ++ e
     ≡ (w1 ++ (d1 ++ (w2 ++ (d2 ++ (w3 ++ (d3 ++ (w4 ++ (d4 ++ (w5 ++ (d5 ++ (w6 ++ (d6 ++ (w7 ++ d7))))))))))))) ++ e
 seven_counts w1 d1 w2 d2 w3 d3 w4 d4 w5 d5 w6 d6 w7 d7 e = ap (λ (r : List ℕ). r ++ e) (simp append_assoc)
+
+pub five_counts : (w1 d1 w2 d2 w3 d3 w4 d4 w5 d5 e : List ℕ) →
+    w1 ++ d1 ++ w2 ++ d2 ++ w3 ++ d3 ++ w4 ++ d4 ++ w5 ++ d5 ++ e
+    ≡ (w1 ++ (d1 ++ (w2 ++ (d2 ++ (w3 ++ (d3 ++ (w4 ++ (d4 ++ (w5 ++ d5))))))))) ++ e
+five_counts w1 d1 w2 d2 w3 d3 w4 d4 w5 d5 e = ap (λ (r : List ℕ). r ++ e) (simp append_assoc)
+
+pub four_counts : (w1 d1 w2 d2 w3 d3 w4 d4 e : List ℕ) →
+    w1 ++ d1 ++ w2 ++ d2 ++ w3 ++ d3 ++ w4 ++ d4 ++ e ≡ (w1 ++ (d1 ++ (w2 ++ (d2 ++ (w3 ++ (d3 ++ (w4 ++ d4))))))) ++ e
+four_counts w1 d1 w2 d2 w3 d3 w4 d4 e = ap (λ (r : List ℕ). r ++ e) (simp append_assoc)
+
+pub three_counts : (w1 d1 w2 d2 w3 d3 e : List ℕ) → w1 ++ d1 ++ w2 ++ d2 ++ w3 ++ d3 ++ e ≡ (w1 ++ (d1 ++ (w2 ++ (d2 ++ (w3 ++ d3))))) ++ e
+three_counts w1 d1 w2 d2 w3 d3 e = ap (λ (r : List ℕ). r ++ e) (simp append_assoc)

@@ -48,7 +48,7 @@ read_whole_pieces octets piece begins' within short = record {
 module _ {S K : Type 0} (left : S → Option (List ℕ)) (written : K → Option (List ℕ)) (faults : K → ℕ) (finished : K → Bool) where
   module _ (s0 s : S) (first k : K) (octets : List ℕ) (d : DecoderState) (h : IsDecoding written faults octets d first k) where
     few : length octets ≤ 2 ^ 30
-    few = let t = h.stands in omega (arith, t.taken, t.limit)
+    few = let t = h.stands in t.limit
 
     starts : IsCapturePrefix octets
     starts = begins octets d h.stands

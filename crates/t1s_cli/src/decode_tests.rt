@@ -2,10 +2,13 @@ ghost use Rattle.std.specs.Prelude.{Some};
 
 use crate::Status;
 use crate::tests::{OneByOne, call};
-use std::alloc::Global;
+use std::alloc::{AllocError, Global};
 use std::process::Abort;
 use std::test::Fail;
 use t1s_base::{Failed, MemSource, QuietSource, Source};
+use t1s_frame::Frame;
+use t1s_grammar::{PieceText, put_piece};
+use t1s_scramble::Scrambler;
 
 const EMPTY: &[u8] = b"T1SC\x01\x02\x21";
 
@@ -62,6 +65,127 @@ fn captures_are_decoded(rt: HostRuntime) -> Result<(), Fail> {
     ];
     for (octets, text) in table {
         check(&rt, rt.alloc(), octets, Status::Done, text)?;
+    }
+    Ok(())
+}
+
+#[test]
+fn runs_are_decoded_with_their_pieces(rt: HostRuntime) -> Result<(), Fail> {
+    let table: [(u8, &[u8]); 3] = [
+        (
+            0x07,
+            b"piece 0 2 12 R runt\nrun 0 72 1\nend 72 beacons 0 runs 1 bare 0 torn 0 pieces 1 good 0\n",
+        ),
+        (
+            0x11,
+            b"piece 0 2 12 K errored\nrun 0 72 1\nend 72 beacons 0 runs 1 bare 0 torn 0 pieces 1 good 0\n",
+        ),
+        (
+            0x19,
+            b"piece 0 2 12 S jabber\nrun 0 72 1\nend 72 beacons 0 runs 1 bare 0 torn 0 pieces 1 good 0\n",
+        ),
+    ];
+    for (closer, text) in table {
+        let mut octets =
+            *b"T1SC\x01\x02\x18\x18\x04\x04\x0B\x0B\x0B\x09\x16\x16\x16\x1D\x17\x16\x1C\x1B\x0D\x07\x21";
+        octets[23] = closer;
+        check(&rt, rt.alloc(), &octets, Status::Done, text)?;
+    }
+    Ok(())
+}
+
+#[test]
+fn bare_commits_and_torn_bursts_are_decoded(rt: HostRuntime) -> Result<(), Fail> {
+    let table: [(&[u8], &[u8]); 4] = [
+        (
+            b"T1SC\x01\x02\x18\x18\x21",
+            b"bare 0 8\nend 8 beacons 0 runs 0 bare 1 torn 0 pieces 0 good 0\n",
+        ),
+        (
+            b"T1SC\x01\x02\x08\x08\x08\x22\x00\x00\x00\x00\x21",
+            b"torn 0 12 3 0\nend 12 beacons 0 runs 0 bare 0 torn 1 pieces 0 good 0\n",
+        ),
+        (
+            b"T1SC\x01\x02\x08\x08\x08\x08\x22\x00\x00\x00\x03\x20\x00\x00\x00\x01\x21",
+            b"torn 0 19 4 3\nend 20 beacons 0 runs 0 bare 0 torn 1 pieces 0 good 0\n",
+        ),
+        (
+            b"T1SC\x01\x02\x18\x18\x04\x04\x0B\x0B\x0B\x09\x16\x16\x16\x1D\x17\x16\x1C\x1B\x0D\x07\x18\x22\x00\x00\x00\x02\x21",
+            b"piece 0 2 12 R runt\ntorn 0 78 19 2\nend 78 beacons 0 runs 0 bare 0 torn 1 pieces 1 good 0\n",
+        ),
+    ];
+    for (octets, text) in table {
+        check(&rt, rt.alloc(), octets, Status::Done, text)?;
+    }
+    Ok(())
+}
+
+/// The parts, one behind another.
+fn joined(alloc: Global, parts: &[&[u8]]) -> Result<Vec<u8>, AllocError> {
+    let mut all = Vec::new(alloc);
+    for part in parts {
+        for octet in part.iter() {
+            all.push(*octet)?;
+        }
+    }
+    Ok(all)
+}
+
+#[test]
+fn a_good_piece_shows_the_octets_of_its_frame(rt: HostRuntime) -> Result<(), Fail> {
+    let frame = Frame::of_offer(&[0x5A; 60])?;
+    let mut piece = PieceText::new();
+    put_piece(&mut piece, 2, &mut Scrambler::new(), &frame, true)?;
+    let octets = joined(
+        rt.alloc(),
+        &[
+            b"T1SC\x01\x02\x20\x00\x00\x00\x10",
+            piece.as_slice(),
+            b"\x21",
+        ],
+    )?;
+    let fives = b"5a5a5a5a5a5a5a5a5a5a".as_slice();
+    let text = joined(
+        rt.alloc(),
+        &[
+            b"piece 16 2 140 R good ",
+            fives,
+            fives,
+            fives,
+            fives,
+            fives,
+            fives,
+            b"\nrun 16 600 1\nend 600 beacons 0 runs 1 bare 0 torn 0 pieces 1 good 1\n",
+        ],
+    )?;
+    check(
+        &rt,
+        rt.alloc(),
+        octets.as_slice(),
+        Status::Done,
+        text.as_slice(),
+    )
+}
+
+#[test]
+fn first_offences_in_a_burst_are_refused(rt: HostRuntime) -> Result<(), Fail> {
+    let table: [(&[u8], &[u8]); 4] = [
+        (b"T1SC\x01\x02\x18\x04", b"refused 7 Place\n"),
+        (
+            b"T1SC\x01\x02\x18\x18\x04\x04\x0B",
+            b"refused 11 Truncated\n",
+        ),
+        (
+            b"T1SC\x01\x02\x18\x22\x00\x00\x00\x00",
+            b"refused 11 CountZero\n",
+        ),
+        (
+            b"T1SC\x01\x02\x08\x22\x00\x00\x00\x01\x18",
+            b"torn 0 5 1 1\nrefused 12 Place\n",
+        ),
+    ];
+    for (octets, text) in table {
+        check(&rt, rt.alloc(), octets, Status::Refused, text)?;
     }
     Ok(())
 }

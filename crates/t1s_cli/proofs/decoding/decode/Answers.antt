@@ -2,6 +2,7 @@ use Rattle.std.proofs.Common.{◌≡◌, ℕ, ◌+◌, ◌≤◌, List, [], ◌+
 use Rattle.std.proofs.lemmas.List.{append-nil}
 use Rattle.t1s_base.specs.Octets.{Gives}
 use Rattle.t1s_capture.specs.Stands.{Stands}
+use Rattle.t1s_capture.proofs.Steps.{taken_all}
 use Rattle.t1s_cli.specs.Decoding.{IsDecoding}
 use Rattle.t1s_cli.proofs.DecodingLemmas.{none_decoded, no_read_fault}
 use Rattle.t1s_cli.proofs.WholeDecoding.{gives_more, nothing_left, decodes_failed, decodes_stopped, decodes_ended}
@@ -42,7 +43,10 @@ loop-sink-smaller g c =
     let next : IsDecoding g.K.Sink.written g.K.Sink.faults (octets ++ piece) c.in-Ok-decode_piece.next c.args.sink.now c.decode_piece.new.sink = c.in-Ok-decode_piece.ensures.ok c.args.sink.now octets h in
     let after : Stands (octets ++ piece) c.in-Ok-decode_piece.next = next.stands in
     let more : length (octets ++ piece) ≡ length octets + length piece = length-append octets piece in
-    omega (arith, before.taken, after.taken, after.limit)
+    let taken : c.loop-sink.decoder.taken ≡ length octets = taken_all octets c.loop-sink.decoder before in
+    let taken' : c.in-Ok-decode_piece.next.taken ≡ length (octets ++ piece) = taken_all (octets ++ piece) c.in-Ok-decode_piece.next after in
+    let limit = after.limit in
+    omega arith
 
 pub loop-sink-preserved : goal.loop-sink-preserved
 loop-sink-preserved g c =

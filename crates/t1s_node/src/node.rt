@@ -1,10 +1,15 @@
 //! `Node`, which a segment drives and lets hear once a tick.
-ghost use Rattle.std.specs.Prelude.{◌≡◌, ◌<◌, ◌↔◌, [], length, IsOk, IsErr, IfErr, IfSome};
+ghost use Rattle.std.specs.Prelude.{◌≡◌, ◌<◌, ◌↔◌, [], length, IsOk, IsErr, IfErr, IfSome, IsTrue};
 ghost use Rattle.std.specs.Borrow.{sem};
 ghost use Rattle.t1s_symbols.specs.Ranges.{IsHeard, IsQuarter};
 ghost use Rattle.t1s_pcs_rx.specs.Leaves.{event_shown};
 ghost use Rattle.t1s_pcs_rx.specs.Receive.{receive_event};
-ghost use Rattle.t1s_node.specs.Node.{IsNodeSet, node_start, node_offered, node_drive, node_sense, is_clash};
+ghost use Rattle.t1s_pcs_tx.specs.Transmit.{transmit_step};
+ghost use Rattle.plca_data.specs.Ranges.{IsMacOut};
+ghost use Rattle.t1s_mac.specs.Mac.{mac_step};
+ghost use Rattle.t1s_mac.specs.Picked.{picked_answer, picked_after};
+ghost use Rattle.t1s_mac.specs.State.{number_of};
+ghost use Rattle.t1s_node.specs.Node.{IsNodeSet, mac_in, is_held, node_start, node_offered, node_drive, node_sense, is_clash};
 ghost use Rattle.t1s_node.specs.Leaves.{LeavesNode};
 
 use crate::carrier::Carrier;
@@ -12,11 +17,11 @@ use crate::{Driven, NodeHeard, NodeSet};
 use plca_control::{Control, ControlIn, Status};
 use plca_data::{DataIn, DataPath};
 use std::marker::Model;
-use t1s_mac::{Mac, PickedDraws};
+use t1s_mac::{Mac, MacStep, PickedDraws};
 use t1s_pcs_rx::PcsRx;
 use t1s_pcs_tx::{PcsTx, TxIn, TxReport};
 use t1s_ring::{DelayLine, FrameRing, Queued};
-use t1s_symbols::Heard;
+use t1s_symbols::{Heard, Quarter};
 
 /// A node. Contracts see it as a `NodeState`. Its MAC is there between any two calls: only its step takes it out.
 #[derive(Drop)]
@@ -44,6 +49,41 @@ impl Model for Node {
     ghost view = { λ n. record { rise = n.rise; fall = n.fall; core = record { control = n.control; mac = mac_in n.mac; tx = n.tx; path = n.path; line = n.line }; status = n.status; carrier = n.carrier; receiver = n.receiver; hit = n.hit; drove = n.drove } };
 
     ghost invariant = { λ n. IsTrue (is_held n.mac) };
+}
+
+/// Steps the MAC in its slot: what it tells, and the number of the frame in its Sending or Jamming then.
+fn step_mac(
+    slot: &mut Option<Mac<PickedDraws>>,
+    carrier: bool,
+    collision: bool,
+) -> (MacStep, Option<u16>)
+    requires { IsTrue (is_held slot.old) }
+    ensures row { (mac_in slot.new, result.0) ≡ mac_step picked_answer picked_after (mac_in slot.old) carrier collision }
+    ensures number { result.1 ≡ number_of (mac_in slot.new) }
+    ensures nibble { IsMacOut result.0.out }
+    ensures held { IsTrue (is_held slot.new) }
+{
+    let held = match slot.take() {
+        Some(mac) => mac,
+        None => unreachable!(),
+    };
+    let (mac, told) = held.step(carrier, collision);
+    let number = mac.number();
+    *slot = Some(mac);
+    (told, number)
+}
+
+/// Steps the transmitter in its place: the quarter that it drives.
+fn step_tx(tx: &mut PcsTx, inp: TxIn, line: &mut DelayLine) -> Option<Quarter>
+    ensures state { tx.new ≡ (transmit_step tx.old inp line.old).state }
+    ensures driven { result ≡ (transmit_step tx.old inp line.old).driven }
+    ensures line { line.new ≡ (transmit_step tx.old inp line.old).line }
+    ensures quarter { IfSome result IsQuarter }
+{
+    let held = std::mem::replace(tx, PcsTx::start());
+    let (next, quarter) = held.step(inp, line);
+    *tx = next;
+    quarter
 }
 
 impl Node {
@@ -103,36 +143,28 @@ impl Node {
         });
         self.control = control;
         self.status = self.status.step(given.active);
-        let held = match self.mac.take() {
-            Some(mac) => mac,
-            None => unreachable!(),
+        let (told, number) = step_mac(&mut self.mac, self.path.carrier(crs), self.path.collision());
+        let tx_in = TxIn {
+            cmd: given.cmd,
+            ended: self.path.ended(),
+            bad: self.path.bad(),
         };
-        let (mac, told) = held.step(self.path.carrier(crs), self.path.collision());
-        let number = mac.number();
-        self.mac = Some(mac);
-        let held = std::mem::replace(&mut self.tx, PcsTx::start());
-        let (tx, quarter) = held.step(
-            TxIn {
-                cmd: given.cmd,
-                ended: self.path.ended(),
-                bad: self.path.bad(),
-            },
-            &mut self.line,
-        );
-        let leaves = if tx.begins_first_h() { number } else { None };
-        self.tx = tx;
-        self.path = self.path.step(
-            DataIn {
-                active: given.active,
-                own: given.own,
-                closed: matches!(report, TxReport::Closed { good: _ }),
-                crs,
-                class,
-                hit: self.hit,
-                mac: told.out,
-            },
-            &mut self.line,
-        );
+        let quarter = step_tx(&mut self.tx, tx_in, &mut self.line);
+        let data_in = DataIn {
+            active: given.active,
+            own: given.own,
+            closed: matches!(report, TxReport::Closed { good: _ }),
+            crs,
+            class,
+            hit: self.hit,
+            mac: told.out,
+        };
+        self.path = self.path.step(data_in, &mut self.line);
+        let leaves = if self.tx.begins_first_h() {
+            number
+        } else {
+            None
+        };
         self.drove = quarter.is_some();
         Driven {
             quarter,

@@ -17,6 +17,10 @@ const ONE_BEACON: &[u8] = b"T1SC\x01\x02\x20\x00\x00\x20\x40\x08\x08\x08\x08\x08
 const TWO_BEACONS: &[u8] =
     b"T1SC\x01\x0F\x08\x08\x08\x08\x08\x20\x00\x00\x00\x64\x08\x08\x08\x08\x08\x21";
 
+const BEACON_AND_RUN: &[u8] =
+    b"T1SC\x01\x02\x20\x00\x00\x20\x40\x08\x08\x08\x08\x08\x20\x00\x00\x00\x64\
+\x18\x18\x04\x04\x0B\x0B\x0B\x09\x16\x16\x16\x1D\x17\x16\x1C\x1B\x0D\x07\x21";
+
 /// Decodes octets that are given as they are asked for, and one octet a read, without a fault.
 fn check(
     rt: &impl Abort,
@@ -49,7 +53,7 @@ fn further_words_are_no_command(rt: HostRuntime) -> Result<(), Fail> {
 
 #[test]
 fn captures_are_decoded(rt: HostRuntime) -> Result<(), Fail> {
-    let table: [(&[u8], &[u8]); 3] = [
+    let table: [(&[u8], &[u8]); 4] = [
         (
             EMPTY,
             b"end 0 beacons 0 runs 0 bare 0 torn 0 pieces 0 good 0\n",
@@ -61,6 +65,10 @@ fn captures_are_decoded(rt: HostRuntime) -> Result<(), Fail> {
         (
             TWO_BEACONS,
             b"beacon 0\nbeacon 120\nend 140 beacons 2 runs 0 bare 0 torn 0 pieces 0 good 0\n",
+        ),
+        (
+            BEACON_AND_RUN,
+            b"beacon 8256\npiece 8376 2 12 R runt\nrun 8376 8448 1\nend 8448 beacons 1 runs 1 bare 0 torn 0 pieces 1 good 0\n",
         ),
     ];
     for (octets, text) in table {

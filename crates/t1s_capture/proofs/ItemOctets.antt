@@ -11,7 +11,6 @@ use Rattle.t1s_grammar.specs.declared.place.Phase.{Phase}
 use Rattle.t1s_grammar.specs.declared.place.PlaceFault.{PlaceFault}
 use Rattle.t1s_grammar.specs.declared.place.PlaceFault.TheVariants.{NotHere, TooLong as OneTooMany}
 use Rattle.t1s_grammar.proofs.Judged.{taken as place_taken, refused as place_refused}
-use Rattle.t1s_grammar.proofs.Beginnings.{refused-taken}
 use Rattle.t1s_pcs_rx.specs.Views.{View, view_of}
 use Rattle.t1s_capture.specs.declared.items.Why.TheVariants.{Magic as BadMagic, Version as BadVersion, NodeByte, CountZero, GapTwice, Place, BurstLong}
 use Rattle.t1s_capture.specs.declared.stage.CountSoFar.{CountSoFar}
@@ -30,6 +29,7 @@ use Rattle.t1s_capture.proofs.Marks.{IsMarked, marked}
 use Rattle.t1s_capture.proofs.Grow.{Grew, grew, fails, grow, grow_magic, grow_version, grow_blur, grow_burst, grow_symbol, grow_torn, end_blur, item_at, piece_item, closer_item, symbol_item, burst_item_at, whole_burst_item, blur_item_at, torn_item}
 use Rattle.t1s_capture.proofs.Sound.{same_front, no_front, unstopped, is_burst, burst_ends, begun}
 use Rattle.t1s_capture.proofs.Whole.{made_once, made_more, grown_from, same_items}
+use Rattle.t1s_capture.proofs.States.{not_taken}
 
 -- ---- an item that is handed out is at its octet
 
@@ -54,9 +54,6 @@ burst_octet octets o start (between (p ∷ ps) lead) h = h
 burst_octet octets o start (opened ps lead) h = h
 burst_octet octets o start (within ps lead ns) h = h
 burst_octet octets o start (ended_piece ps lead ns) h = h
-
-not_taken : (q : Phase) → place_refused NotHere ≡ place_taken q → ⊥
-not_taken q e = refused-taken NotHere q e
 
 module _ (octets : List ℕ) (o : ℕ) (node : ℕ) (items : List CaptureItem) (b : Beginning) (m : AreMadeOf octets (behind node items (in_burst b))) (short : length octets < 2 ^ 30) (low : o < 256) where
   whole_here : (item : Handed) → (o ≡ 0x20) ⊎ (o ≡ 0x21) → whole_burst_item items b ≡ Some item → IsItemOctet octets o item

@@ -27,6 +27,7 @@ use Rattle.t1s_capture.proofs.Texts.{octets_of, count_of-octets, last_of, no_las
 use Rattle.t1s_capture.proofs.Marks.{group_mark}
 use Rattle.t1s_capture.proofs.Grow.{Grew, grew, fails, grow, grow_symbol, grow_burst, end_gap, end_blur}
 use Rattle.t1s_capture.proofs.Sound.{burst_ends, needed_blur, begun}
+use Rattle.t1s_grammar.proofs.Beginnings.{refused-taken}
 
 -- one octet more, where none was refused before, and a list of octets more
 abbrev pub step_on : Grew → ℕ → Grew
@@ -55,9 +56,6 @@ abbrev pub AreSymbols : List Symbol → Type 0
 AreSymbols [] = Unit {0}
 AreSymbols (s ∷ ss) = IsSymbol s × AreSymbols ss
 
-refused_taken : (e : PlaceFault) (q : Phase) → refused e ≡ taken q → ⊥
-refused_taken e q h = cc
-
 -- where the symbols are judged well, the burst grows by them
 reads-symbols : (ss : List Symbol) (node : ℕ) (items : List CaptureItem) (b : Beginning) (q : Phase) → AreSymbols ss →
     after ss (taken (phase_of b)) ≡ taken q →
@@ -75,7 +73,7 @@ reads-symbols (s ∷ ss) node items b q h e = by_step (λ c k. reads-symbols ss 
         let t = more b s p is in
         ap (λ r. reads_from r (map group ss)) one
         ∙ others (grown b s) (ap (λ (x : Phase). after ss (taken x)) t.phase ∙ e)
-    by_step others (Err x) is e = absurd (refused_taken x q (sym (after-err ss x) ∙ e))
+    by_step others (Err x) is e = absurd (refused-taken x q (sym (after-err ss x) ∙ e))
 
 AreSymbols-append : (xs ys : List Symbol) → AreSymbols xs → AreSymbols ys → AreSymbols (xs ++ ys)
 AreSymbols-append [] ys h k = k

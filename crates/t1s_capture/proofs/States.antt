@@ -430,7 +430,7 @@ SymbolAnswered taken items node b s q =
     symbol_taken (progress_at taken items (in_burst b)) (lead_at (phase_of b)) (nibbles_at (phase_of b)) s (longer (burst_stage items b) q)
     ≡ answer taken (grew (behind node items (in_burst (grown b s)))) (closer_item items b s)
 
-not_taken : (q : Phase) → place_refused NotHere ≡ place_taken q → ⊥
+pub not_taken : (q : Phase) → place_refused NotHere ≡ place_taken q → ⊥
 not_taken q e = refused-taken NotHere q e
 
 nibble_taken : (taken : ℕ) (items : List CaptureItem) (node : ℕ) (b : Beginning) (n : ℕ) (q : Phase) → place_step (phase_of b) (Nibble n) ≡ place_taken q → SymbolAnswered taken items node b (Nibble n) q

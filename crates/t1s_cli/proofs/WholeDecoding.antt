@@ -15,11 +15,6 @@ use Rattle.t1s_cli.specs.Decoded.{IsItemText, IsCaptureText, IsOffenceText, IsDe
 use Rattle.t1s_cli.specs.Decoding.{IsDecoding, HasDecoded, HasStopped, IsReadInPieces, Decodes}
 use Rattle.t1s_cli.proofs.DecodeText.{capture_of, unoffending}
 
--- a source that gave some octets and then others
-pub gives_more : (a b c : Option (List ℕ)) (xs ys : List ℕ) → Gives a b xs → Gives b c ys → Gives a c (xs ++ ys)
-gives_more a b None xs ys h k = h ∙ rw k refl
-gives_more a b (Some zs) xs ys h k = h ∙ rw k (ap Some (sym (append_assoc xs ys zs)))
-
 -- what is left, where the source tells it
 abbrev pub left_over : Option (List ℕ) → List ℕ
 left_over None = []

@@ -50,82 +50,78 @@ pub(crate) fn call<S: Source + Drop>(
     Ok((status, Vec::from_slice(alloc, sink.written())?))
 }
 
-#[test]
-fn each_answer_has_its_text(rt: HostRuntime) -> Result<(), Fail> {
-    let run: &[&str] = &["run"];
-    let none: &[u64] = &[];
-    let table = [
-        (run, SCRIPT, none, none, Status::Done, REPORT),
-        (run, EARLY, none, none, Status::Done, NEVER_SETTLED),
-        (
-            run,
-            b"".as_slice(),
-            none,
-            none,
-            Status::Refused,
-            b"refused 1 FirstLine\n".as_slice(),
-        ),
-        (
-            run,
-            b"t1s 1\nto 40\n".as_slice(),
-            none,
-            none,
-            Status::Refused,
-            b"refused 3 NoEnd\n".as_slice(),
-        ),
-        (
-            run,
-            NO_END,
-            none,
-            none,
-            Status::Refused,
-            b"refused 6 NoEnd\n".as_slice(),
-        ),
-        (&[], SCRIPT, none, none, Status::Usage, b"".as_slice()),
-        (
-            &["run", "run"],
-            SCRIPT,
-            none,
-            none,
-            Status::Usage,
-            b"".as_slice(),
-        ),
-        (
-            &["capture", "16"],
-            SCRIPT,
-            none,
-            none,
-            Status::Usage,
-            b"".as_slice(),
-        ),
-        (
-            &["capture", "01"],
-            SCRIPT,
-            none,
-            none,
-            Status::Usage,
-            b"".as_slice(),
-        ),
-        (run, SCRIPT, &[2], none, Status::ReadFault, b"".as_slice()),
-        (
-            run,
-            SCRIPT,
-            none,
-            &[2],
-            Status::WriteFault,
-            b"8256 status 0 ok\n".as_slice(),
-        ),
-        (run, SCRIPT, none, &[22], Status::WriteFault, REPORT),
-    ];
-    for (words, input, read_fails, write_fails, status, text) in table {
+/// An input, the numbers of the reads and the writes that fail, the answer, and what is written.
+type Row<'a> = (&'a [u8], &'a [u64], &'a [u64], Status, &'a [u8]);
+
+/// Sees that these words give each row its answer and its text.
+fn check_rows(
+    rt: &impl Abort,
+    alloc: Global,
+    words: &[&str],
+    rows: &[Row<'_>],
+) -> Result<(), AllocError> {
+    for row in rows {
+        let (input, read_fails, write_fails, status, text) = *row;
         let source = MemSource::new(
-            Vec::from_slice(rt.alloc(), input)?,
-            Vec::from_slice(rt.alloc(), read_fails)?,
+            Vec::from_slice(alloc, input)?,
+            Vec::from_slice(alloc, read_fails)?,
         );
-        let (answer, written) = call(rt.alloc(), words, source, write_fails)?;
+        let (answer, written) = call(alloc, words, source, write_fails)?;
         assert_eq!(rt; answer, status);
         assert_eq!(rt; written.as_slice(), text);
     }
+    Ok(())
+}
+
+#[test]
+fn scripts_are_run_or_refused(rt: HostRuntime) -> Result<(), Fail> {
+    check_rows(
+        &rt,
+        rt.alloc(),
+        &["run"],
+        &[
+            (SCRIPT, &[], &[], Status::Done, REPORT),
+            (EARLY, &[], &[], Status::Done, NEVER_SETTLED),
+            (b"", &[], &[], Status::Refused, b"refused 1 FirstLine\n"),
+            (
+                b"t1s 1\nto 40\n",
+                &[],
+                &[],
+                Status::Refused,
+                b"refused 3 NoEnd\n",
+            ),
+            (NO_END, &[], &[], Status::Refused, b"refused 6 NoEnd\n"),
+        ],
+    )?;
+    Ok(())
+}
+
+#[test]
+fn other_words_are_usage(rt: HostRuntime) -> Result<(), Fail> {
+    let wrong: [&[&str]; 4] = [&[], &["run", "run"], &["capture", "16"], &["capture", "01"]];
+    for words in wrong {
+        check_rows(
+            &rt,
+            rt.alloc(),
+            words,
+            &[(SCRIPT, &[], &[], Status::Usage, b"")],
+        )?;
+    }
+    Ok(())
+}
+
+#[test]
+fn a_fault_ends_the_run(rt: HostRuntime) -> Result<(), Fail> {
+    check_rows(
+        &rt,
+        rt.alloc(),
+        &["run"],
+        &[
+            (SCRIPT, &[2], &[], Status::ReadFault, b""),
+            (SCRIPT, &[], &[2], Status::WriteFault, b"8256 status 0 ok\n"),
+            (SCRIPT, &[], &[22], Status::WriteFault, REPORT),
+        ],
+    )?;
     Ok(())
 }
 
@@ -142,7 +138,7 @@ fn check_line_of(rt: &impl Abort, alloc: Global, rows: &[(&str, &str)]) -> Resul
 }
 
 #[test]
-fn check_tells_whether_a_script_is_fit(rt: HostRuntime) -> Result<(), Fail> {
+fn check_tells_span_and_bound_of_a_fit_script(rt: HostRuntime) -> Result<(), Fail> {
     check_line_of(
         &rt,
         rt.alloc(),
@@ -161,6 +157,11 @@ fn check_tells_whether_a_script_is_fit(rt: HostRuntime) -> Result<(), Fail> {
             ),
         ],
     )?;
+    Ok(())
+}
+
+#[test]
+fn check_names_the_first_unmet_premise(rt: HostRuntime) -> Result<(), Fail> {
     check_line_of(
         &rt,
         rt.alloc(),
@@ -196,36 +197,28 @@ fn check_tells_whether_a_script_is_fit(rt: HostRuntime) -> Result<(), Fail> {
 
 #[test]
 fn check_answers_as_run_does(rt: HostRuntime) -> Result<(), Fail> {
-    let check: &[&str] = &["check"];
-    let none: &[u64] = &[];
-    let nothing: &[u8] = b"";
     let fit: &[u8] = b"fit 5 76840\n";
     let no_end: &[u8] = b"refused 6 NoEnd\n";
-    let table = [
-        (check, SCRIPT, none, none, Status::Done, fit),
-        (
-            &["check", "check"],
-            SCRIPT,
-            none,
-            none,
-            Status::Usage,
-            nothing,
-        ),
-        (check, NO_END, none, none, Status::Refused, no_end),
-        (check, NO_END, none, &[2], Status::WriteFault, no_end),
-        (check, SCRIPT, &[2], none, Status::ReadFault, nothing),
-        (check, SCRIPT, none, &[1], Status::WriteFault, nothing),
-        (check, SCRIPT, none, &[2], Status::WriteFault, fit),
-    ];
-    for (words, input, read_fails, write_fails, status, text) in table {
-        let source = MemSource::new(
-            Vec::from_slice(rt.alloc(), input)?,
-            Vec::from_slice(rt.alloc(), read_fails)?,
-        );
-        let (answer, written) = call(rt.alloc(), words, source, write_fails)?;
-        assert_eq!(rt; answer, status);
-        assert_eq!(rt; written.as_slice(), text);
-    }
+    check_rows(
+        &rt,
+        rt.alloc(),
+        &["check"],
+        &[
+            (SCRIPT, &[], &[], Status::Done, fit),
+            (NO_END, &[], &[], Status::Refused, no_end),
+            (NO_END, &[], &[2], Status::WriteFault, no_end),
+            (SCRIPT, &[2], &[], Status::ReadFault, b""),
+            (SCRIPT, &[], &[1], Status::WriteFault, b""),
+            (SCRIPT, &[], &[2], Status::WriteFault, fit),
+        ],
+    )?;
+    let twice = &["check", "check"];
+    check_rows(
+        &rt,
+        rt.alloc(),
+        twice,
+        &[(SCRIPT, &[], &[], Status::Usage, b"")],
+    )?;
     Ok(())
 }
 

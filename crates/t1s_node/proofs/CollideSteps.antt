@@ -16,7 +16,8 @@ use Rattle.t1s_node.proofs.HoldSteps.{told_in}
 use Rattle.t1s_node.proofs.MacTurns.{Heads, SendTurn, lasts, jams as begins_jam, gives, sends, JamTurn, jam_lasts, jam_goes, jam_ends, BacksOff, waits, BackoffTurn, backs_off, count_of, frame_there}
 use Rattle.t1s_node.proofs.Joint.{Collides, Jams, Delays, IsPending, Opens, collide_lasts, collide_gives, collide_jams, jam_lasts as jam_on, jam_gives, jam_ends as jam_over, delays_on, delay_ends, pends_on, pending_opens, Apart, Outcome, collides, jams, delays, pends, waits as waits_in, opens as opens_busy}
 use Rattle.t1s_node.proofs.Turning.{ApartTurn, still, opens, apart_own, FreeNext, frees}
-use Rattle.t1s_node.proofs.View.{View, InCommit, own_of, if_both}
+use Rattle.t1s_node.proofs.View.{View, InCommit, own_of}
+use Rattle.t1s_mac.proofs.Rows.{if_both}
 
 module _ (own closed crs : Bool) (class : Class) (q : Queue) (v' : View) (out : Apart v') where
   pub collide_steps : (f : Queued) (k p : ℕ) (hit : Bool) (left : Row) (stage : Stage) (part : ℕ) (line' : List ℕ)

@@ -20,7 +20,8 @@ use Rattle.t1s_node.specs.Runs.{core_offers, DrawsAreBounded}
 use Rattle.t1s_node.proofs.Joint.{Place, Asleep, Goes, Joint, Outcome, asleep, idles, holds, collides, jams, delays, pends, waits, rests_in, before, fed, given, ends, closes}
 use Rattle.t1s_node.proofs.JointSteps.{joint_steps, asleep_on}
 use Rattle.t1s_node.proofs.MacTurns.{Fit, Heads, Rests, rests, defers, BacksOff, waits as in_backoff, over}
-use Rattle.t1s_node.proofs.View.{View, view_of, cmd_of, own_of, counts, row_counts, row_turns, view_cmd, view_own, if_both, inactive_away, start_away, start_counts}
+use Rattle.t1s_node.proofs.View.{View, view_of, cmd_of, own_of, counts, row_counts, row_turns, view_cmd, view_own, inactive_away, start_away, start_counts}
+use Rattle.t1s_mac.proofs.Rows.{if_both}
 
 -- every frame stays a frame where the first leaves
 fit_dropped : (frames : List Queued) → Fit frames → Fit (drop 1 frames)

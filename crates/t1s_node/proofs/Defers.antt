@@ -11,7 +11,7 @@ use Rattle.t1s_mac.specs.Mac.{Row, row_of, mac_row, deferring, sending, last_qua
 use Rattle.t1s_mac.specs.State.{Phase, Resting, Deferring, Waiting, Sending, Jamming, MacState, is_sending, head_nibbles, with_queue}
 use Rattle.t1s_node.specs.Core.{Core, core_offered, core_drive}
 use Rattle.t1s_node.specs.Runs.{CoreTick, core_offers, core_at, found_at, left_at, starts_at, carrier_at, is_first_nibble}
-use Rattle.t1s_node.proofs.View.{if_both}
+use Rattle.t1s_mac.proofs.Rows.{if_both}
 
 -- the gap counts from 96 down to 1
 abbrev pub InGap : Deference → Type 0

@@ -6,7 +6,7 @@ use Rattle.t1s_pcs_tx.specs.declared.TxCmd.TheVariants.{None as NoCmd, Beacon as
 use Rattle.t1s_pcs_tx.specs.State.{Stage, Quiet, Beaconing, Committing, Starting}
 use Rattle.t1s_pcs_tx.specs.Transmit.{TxTurn, transmit_step, report_of, chosen_turn, told_choice, last_part}
 use Rattle.plca_control.specs.ControlTable.{is_closed}
-use Rattle.t1s_node.proofs.View.{if_both}
+use Rattle.t1s_mac.proofs.Rows.{if_both}
 
 -- its stage, the quarter that was driven last, and the quarters left of its symbol
 pub data Free : Stage → ℕ → ℕ → Type 0 where

@@ -20,7 +20,8 @@ use Rattle.t1s_node.proofs.Free.{Free, FreeTurn, goes_on, begins_commit, begins_
 use Rattle.t1s_node.proofs.MacTurns.{Heads, SendTurn, lasts, jams, gives, sends, lasting, giving, count_of, long}
 use Rattle.t1s_node.proofs.Joint.{Holds, Collides, Before, InPiece, Apart, commit, Aligned, starting, Outcome, holds, collides, before, fed, holds_on, hold_fails, hold_opens, hold_pops, nibble_of}
 use Rattle.t1s_node.proofs.Turning.{ApartTurn, still, opens, apart_turns, apart_own, HoldNext, aligned, aligned_turns, aligned_opens}
-use Rattle.t1s_node.proofs.View.{View, InCommit, cmd_of, own_of, Turns, if_both}
+use Rattle.t1s_node.proofs.View.{View, InCommit, cmd_of, own_of, Turns}
+use Rattle.t1s_mac.proofs.Rows.{if_both}
 
 -- what the data path is told while the node takes part in the cycle and nothing has met its drive
 abbrev pub told_in : Bool → Bool → Bool → Class → MacOut → DataIn

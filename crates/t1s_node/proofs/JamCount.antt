@@ -18,7 +18,8 @@ use Rattle.t1s_node.specs.Runs.{CoreTick, DrawsAreBounded, Undisturbed, core_off
 use Rattle.t1s_node.proofs.Along.{RunAt, ticks, run_at}
 use Rattle.t1s_node.proofs.Joint.{Place, Told, as_before, now_sent, Goes, piece_lasts, piece_pops, Joint, asleep, idles, holds, collides, jams as jammed, delays, pends, waits, rests_in, before, fed, given as given_all, ends, closes}
 use Rattle.t1s_node.proofs.MacTurns.{Rests, rests, defers, BacksOff, waits as in_backoff, over}
-use Rattle.t1s_node.proofs.View.{View, if_both}
+use Rattle.t1s_node.proofs.View.{View}
+use Rattle.t1s_mac.proofs.Rows.{if_both}
 
 -- a jam that is given out counts before its end does
 abbrev pub jam_in : Phase → ℕ

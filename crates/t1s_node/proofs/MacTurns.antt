@@ -12,7 +12,7 @@ use Rattle.t1s_mac.specs.declared.deference.Deference.TheVariants.{Busy}
 use Rattle.t1s_mac.specs.Mac.{Row, row, row_of, deferring, sending, jamming, last_quarter, last_jam_nibble, preamble_nibbles}
 use Rattle.t1s_mac.specs.State.{Phase, Resting, Deferring, Waiting, Sending, Jamming, head_nibbles, head_number, nibbles_in, number_in}
 use Rattle.t1s_mac.specs.declared.outcome.MacNote.TheVariants.{None as NoNote, Jam, Sent}
-use Rattle.t1s_node.proofs.View.{if_both}
+use Rattle.t1s_mac.proofs.Rows.{if_both}
 
 -- the first frame of a queue
 pub record Heads (q : Queue) (f : Queued) : Type 0 where

@@ -22,7 +22,8 @@ use Rattle.t1s_node.proofs.Joint.{Place, IsPending, Opens, Before, Goes, pends_o
 use Rattle.t1s_node.proofs.JointSteps.{apart_of}
 use Rattle.t1s_node.proofs.MacTurns.{Heads, first_same}
 use Rattle.t1s_node.proofs.Turning.{apart_own}
-use Rattle.t1s_node.proofs.View.{View, InCommit, own_of, view_of, view_own, if_both, commit_view, view_commit, still_commit, now_transmits}
+use Rattle.t1s_node.proofs.View.{View, InCommit, own_of, view_of, view_own, commit_view, view_commit, still_commit, now_transmits}
+use Rattle.t1s_mac.proofs.Rows.{if_both}
 
 pending_place : (place : Place) (v : View) (phase : Phase) (q : Queue) (d : Deference) (a : ℕ) (stage : Stage) (part : ℕ) (path : State) (line : List ℕ)
     → Joint place v phase q d a stage part path line → path ≡ Pending → (f : Queued) × (place ≡ IsPending f) × Heads q f × Apart v

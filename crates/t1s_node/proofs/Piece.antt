@@ -8,7 +8,7 @@ use Rattle.t1s_pcs_tx.specs.State.{Stage, Quiet, Committing, Starting, ClosingEn
 use Rattle.t1s_pcs_tx.specs.Transmit.{TxTurn, Choice, transmit_step, report_of, chosen_turn, choice, data_choice, last_part}
 use Rattle.plca_control.specs.ControlTable.{is_closed}
 use Rattle.t1s_node.proofs.Joint.{PieceTx, starting, sending}
-use Rattle.t1s_node.proofs.View.{if_both}
+use Rattle.t1s_mac.proofs.Rows.{if_both}
 
 -- its symbol goes on; or the next nibble is popped; or the line is empty, and T begins
 pub data PieceTurn (i s : ℕ) (good : Bool) (line : List ℕ) : Stage → ℕ → List ℕ → Type 0 where

@@ -11,6 +11,7 @@ use Rattle.plca_control.specs.declared.State.TheVariants.{Disabled, Recover, Res
 use Rattle.plca_control.specs.Runs.{is_transmit}
 use Rattle.plca_control.specs.ControlTable.{reach, control_row, control_start, is_own, is_active, is_closed, is_closed_good, is_beacon}
 use Rattle.t1s_node.specs.Laws.{is_commit}
+use Rattle.t1s_mac.proofs.Rows.{if_both}
 
 -- neither a beacon nor the own opportunity; a beacon, and how many of its ticks follow; the own opportunity, before its
 -- frame, within it, and after a frame of a burst
@@ -89,11 +90,6 @@ reach_cmd s ready c = search (rules, nat_tests)
 
 pub view_cmd : (s : ControlSet) (st : State) (i : ControlIn) → (control_row s st i).1 ≡ cmd_of (view_of (control_row s st i).0)
 view_cmd s _ i = search (rules, nat_tests, reach_cmd)
-
--- what holds of both values holds of the one that a test picks
-pub if_both : {A : Type 0} (P : A → Type 0) (test : Bool) (x y : A) → (test ≡ true → P x) → (test ≡ false → P y) → P (if test then x else y)
-if_both P true x y holds fails = holds refl
-if_both P false x y holds fails = fails refl
 
 module _ (s : ControlSet) (i : ControlIn) where
   abbrev TurnsTo : View → State × TxCmd → Type 0

@@ -5,7 +5,8 @@ use Rattle.t1s_capture.specs.Stands.{Stands}
 use Rattle.t1s_capture.proofs.Steps.{taken_all}
 use Rattle.t1s_cli.specs.Decoding.{IsDecoding}
 use Rattle.t1s_cli.proofs.DecodingLemmas.{none_decoded, no_read_fault}
-use Rattle.t1s_cli.proofs.WholeDecoding.{gives_more, nothing_left, decodes_failed, decodes_stopped, decodes_ended}
+use Rattle.t1s_base.proofs.Growth.{gives_then}
+use Rattle.t1s_cli.proofs.WholeDecoding.{nothing_left, decodes_failed, decodes_stopped, decodes_ended}
 use Rattle.t1s_cli.proofs.decoding.decode.Goals as goal
 
 pub loop-sink-init : goal.loop-sink-init
@@ -23,7 +24,7 @@ returns-in-Ok-eq0-clause-decodes g c =
     let left = nothing_left (g.S.Source.left c.loop-sink.source) (g.S.Source.left c.read.new.self) c.in-Ok-eq0.field-0 z none c.in-Ok-eq0.ensures.end in
     let all : Gives (g.S.Source.left c.args.source.now) (g.S.Source.left c.read.new.self) octets =
     subst (λ (o : List ℕ). Gives (g.S.Source.left c.args.source.now) (g.S.Source.left c.read.new.self) o) (append-nil octets)
-    (gives_more (g.S.Source.left c.args.source.now) (g.S.Source.left c.loop-sink.source) (g.S.Source.left c.read.new.self) octets [] gives none) in
+    (gives_then (g.S.Source.left c.args.source.now) (g.S.Source.left c.loop-sink.source) (g.S.Source.left c.read.new.self) octets [] gives none) in
     decodes_ended g.S.Source.left g.K.Sink.written g.K.Sink.faults g.K.Sink.finished c.args.source.now c.loop-sink.source c.args.sink.now c.loop-sink.sink octets c.loop-sink.decoder h
     c.read.new.self c.end_octets.new.sink c.end_octets.result all left (c.end_octets.ensures c.args.sink.now octets h)
 
@@ -56,7 +57,7 @@ loop-sink-preserved g c =
       so_far = (
         octets ++ piece,
         c.in-Ok-decode_piece.ensures.ok c.args.sink.now octets h,
-        gives_more (g.S.Source.left c.args.source.now) (g.S.Source.left c.loop-sink.source) (g.S.Source.left c.read.new.self) octets piece gives c.in-Ok.ensures.octets,
+        gives_then (g.S.Source.left c.args.source.now) (g.S.Source.left c.loop-sink.source) (g.S.Source.left c.read.new.self) octets piece gives c.in-Ok.ensures.octets,
       );
       kept = c.in-Ok.ensures.cause.kept ∙ c.loop-sink.invariant.kept;
       room = c.read.auto.into ∙ c.loop-sink.invariant.room;
@@ -71,7 +72,7 @@ returns-in-Err-decode_piece-clause-decodes g c =
     let short : length piece ≤ 4096 = omega arith in
     decodes_stopped g.S.Source.left g.K.Sink.written g.K.Sink.faults g.K.Sink.finished c.args.source.now c.loop-sink.source c.args.sink.now c.loop-sink.sink octets c.loop-sink.decoder h
     piece c.read.new.self c.decode_piece.new.sink c.in-Err-decode_piece.status
-    (gives_more (g.S.Source.left c.args.source.now) (g.S.Source.left c.loop-sink.source) (g.S.Source.left c.read.new.self) octets piece gives c.in-Ok.ensures.octets)
+    (gives_then (g.S.Source.left c.args.source.now) (g.S.Source.left c.loop-sink.source) (g.S.Source.left c.read.new.self) octets piece gives c.in-Ok.ensures.octets)
     short (c.in-Err-decode_piece.ensures.err c.args.sink.now octets h)
 
 pub returns-in-Err-decode_piece-clause-read_fault : goal.returns-in-Err-decode_piece-clause-read_fault

@@ -19,18 +19,14 @@ use Rattle.t1s_script.specs.declared.script.Script.{Script}
 use Rattle.t1s_script.specs.declared.script.NodeLine.{NodeLine}
 use Rattle.t1s_segment.specs.declared.node.Node.{Node}
 use Rattle.t1s_segment.specs.declared.track.Track.{Track}
-use Rattle.t1s_segment.specs.Track.{drive_track, hear_track, driven_track, hearing_track, track_machine}
+use Rattle.t1s_segment.specs.Track.{hear_track, driven_track, hearing_track, track_machine}
 use Rattle.t1s_segment.specs.Transmitter.{quarter_of}
 use Rattle.t1s_segment.specs.World.{world, places_of, first_track, first_tracks, driven_in}
 use Rattle.t1s_segment.specs.Beacons.{IsLoneCoordinator, beacon_start, IsBeacon, DrivesAreBeacons}
-use Rattle.t1s_segment.proofs.Silents.{silent_drives_none, started, hearing}
+use Rattle.t1s_segment.proofs.Silents.{silent_drives_none, drive_started, hearing}
 use Rattle.t1s_segment.proofs.Rounds.{lone, AtTick, Phase, sending, fading, turn, at_next}
 
 -- a started node
-drive_started : (t : ℕ) (k : Track) → k.start ≡ 0 → drive_track t k ≡ started t k
-unfolding drive_track
-drive_started t k e = let on : ltb t k.start ≡ false = rw e (search (rules, nat_tests)) in rw on refl
-
 hear_started : (t : ℕ) (k : Track) → k.start ≡ 0 → hear_track t Nothing k ≡ hearing Nothing k
 unfolding hear_track
 hear_started t k e = let on : ltb t k.start ≡ false = rw e (search (rules, nat_tests)) in rw on refl
@@ -154,14 +150,14 @@ module _ (s : Script) (z : ℕ) (line : NodeLine) (valid : IsScript s) (one : Is
       let (k, at, start, phase) = kept_at t in
       let later = kept_next track_machine (places_of s) (first_tracks s) t z k at in
       let on : AtTick s.count line.to s.rise s.fall (t + 1) (lone k.node) = next t k.node phase in
-      (hearing_track Nothing (driven_track k), rw (hears_nothing t, drive_started t k start, hear_started t (driven_track k) start) at later, start, rw add-one at on)
+      (hearing_track Nothing (driven_track k), rw (hears_nothing t, drive_started t k (omega (arith, start)), hear_started t (driven_track k) start) at later, start, rw add-one at on)
 
   -- what it drives in tick t, from what it keeps after it
   drives_at : (t : ℕ) → (n : Node) × (driven_in s z t ≡ quarter_of n.transmitter) × AtTick s.count line.to s.rise s.fall (t + 1) n
   drives_at t =
       let (k, at, start, phase) = kept_at t in (
         lone k.node,
-        driven_is track_machine (places_of s) (first_tracks s) t z k at ∙ rw (drive_started t k start) refl,
+        driven_is track_machine (places_of s) (first_tracks s) t z k at ∙ rw (drive_started t k (omega (arith, start))) refl,
         next t k.node phase,
       )
 

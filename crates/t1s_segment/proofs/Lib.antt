@@ -5,3 +5,4 @@ pub mod Rounds
 pub mod BeaconTicks
 pub mod Parts
 pub mod SameRuns
+pub mod HeardTicks

@@ -1,5 +1,5 @@
 -- A node whose ID is not 0 and that has no frame never drives, whatever it hears.
-use Rattle.std.proofs.Common.{ℕ, zero, suc, ◌+◌, ◌-◌, ◌<◌, Bool, true, false, cond, eqb, ltb, leb, refl, rules, [], Some, None, ◌∙◌, ◌≡◌, ◌⊎◌, inl, inr}
+use Rattle.std.proofs.Common.{ℕ, zero, suc, ◌+◌, ◌-◌, ◌<◌, ◌≤◌, Bool, true, false, cond, eqb, ltb, leb, refl, rules, [], Some, None, ◌∙◌, ◌≡◌, ◌⊎◌, inl, inr}
 use Rattle.std.specs.Prelude.{slice_get, ◌&&◌}
 use Rattle.std.proofs.lemmas.Bool.Decides.{nat_tests}
 use Rattle.t1s_symbols.specs.declared.Heard.{Heard}
@@ -36,6 +36,15 @@ drive_cases t k = go (ltb t k.start)
     go : (b : Bool) → (cond b (unstarted k) (started t k) ≡ unstarted k) ⊎ (cond b (unstarted k) (started t k) ≡ started t k)
     go true = inl refl
     go false = inr refl
+
+-- which of them it is, by its start
+pub drive_before : (t : ℕ) (k : Track) → t < k.start → drive_track t k ≡ unstarted k
+unfolding drive_track
+drive_before t k lt = let off : ltb t k.start ≡ true = search (rules, nat_tests) in rw off refl
+
+pub drive_started : (t : ℕ) (k : Track) → k.start ≤ t → drive_track t k ≡ started t k
+unfolding drive_track
+drive_started t k ge = let on : ltb t k.start ≡ false = search (rules, nat_tests) in rw on refl
 
 -- and the same of the hear phase
 abbrev pub deaf : Track → Track × Sensed

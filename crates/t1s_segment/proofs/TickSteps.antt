@@ -34,7 +34,7 @@ module _ (room : ℕ) where
   take_newest : (q : Option Quarter) (c : List (Option Quarter)) → take (suc room) (q ∷ take (suc room) c) ≡ take (suc room) (q ∷ c)
   take_newest q c = ap (λ (r : List (Option Quarter)). q ∷ r) (take-take room (suc room) c (omega arith))
 
-  ring_at_is : (rings : List (Buffer (Option Quarter))) (rows : List (List (Option Quarter))) → KeepsRows room rings rows → (i d : ℕ) → i < length rings → d < room → ring_at rings i d ≡ at_depth rows i d
+  pub ring_at_is : (rings : List (Buffer (Option Quarter))) (rows : List (List (Option Quarter))) → KeepsRows room rings rows → (i d : ℕ) → i < length rings → d < room → ring_at rings i d ≡ at_depth rows i d
   ring_at_is rings rows keeps i d h near = rw (keeps i h, get_or-take room (column i rows) d None near) (column_at i rows d)
 
   KeepsRows-pushed : (rings : List (Buffer (Option Quarter))) (rows : List (List (Option Quarter))) (row : List (Option Quarter)) → length row ≡ length rings → KeepsRows (suc room) rings rows → KeepsRows (suc room) (each_with pushed rings row) (row ∷ rows)

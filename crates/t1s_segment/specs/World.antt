@@ -1,8 +1,11 @@
 -- The world of a script, and what happens in its run.
-use Rattle.std.specs.Prelude.{ℕ, ◌+◌, Bool, false, List, [], ◌∷◌, Option, map, get_or}
+use Rattle.std.specs.Prelude.{ℕ, zero, suc, ◌+◌, nat_lt, ◌==◌, Bool, false, List, [], ◌∷◌, Option, None, is_some, position, map, get_or, if◌then◌else◌}
 use Rattle.std.specs.List.{flat_map, list_all}
+use Rattle.std.specs.Option.{option_map}
+use Rattle.t1s_symbols.specs.declared.Heard.{Heard}
+use Rattle.t1s_symbols.specs.declared.Heard.TheVariants.{Nothing}
 use Rattle.t1s_symbols.specs.declared.Quarter.{Quarter}
-use Rattle.t1s_world.specs.World.{Past, past, after_drive, driven_by, driven_at, sensed_at}
+use Rattle.t1s_world.specs.World.{Past, past, after_drive, driven_by, driven_at, heard_at, sensed_at}
 use Rattle.t1s_world.specs.Telling.{first_below, count_below}
 use Rattle.plca_control.specs.declared.ControlSet.{ControlSet}
 use Rattle.t1s_script.specs.declared.script.Script.{Script}
@@ -75,3 +78,29 @@ totals_from clashes i (n ∷ ns) = totals_with n.no (clashes i) ∷ totals_from 
 -- what is counted at each node over the ticks below t
 unfoldable pub totals_below : Script → ℕ → List NodeTotals
 totals_below s t = totals_from (λ i. count_below (clash_at s i) t) 0 s.nodes
+
+-- the position of the node with this number, if the script has one
+abbrev pub position_of : Script → ℕ → Option ℕ
+position_of s node = position (λ (n : NodeLine). n.no == node) s.nodes
+
+-- the tick at which the node at position j starts
+abbrev pub start_of : Script → ℕ → ℕ
+start_of s j = get_or (map (λ (n : NodeLine). n.start) s.nodes) j 0
+
+-- what the node at position j hears in tick t: nothing before its start
+unfoldable pub heard_in : Script → ℕ → ℕ → Heard
+heard_in s j t =
+    if nat_lt t (start_of s j) then Nothing else heard_at track_machine (places_of s) (first_tracks s) t j
+
+-- what it hears in tick t, and whether it drives in it
+abbrev pub tick_in : Script → ℕ → ℕ → Heard × Bool
+tick_in s j t = (heard_in s j t, is_some (driven_in s j t))
+
+-- the same of the node with this number. None where the script has no such node
+abbrev pub heard_by : Script → ℕ → ℕ → Option (Heard × Bool)
+heard_by s node t = option_map (λ j. tick_in s j t) (position_of s node)
+
+-- the same of the last of the ticks below t. None also where there is no tick below it
+abbrev pub last_heard : Script → ℕ → ℕ → Option (Heard × Bool)
+last_heard s node zero = None
+last_heard s node (suc t) = heard_by s node t

@@ -3,7 +3,7 @@ ghost use Rattle.t1s_world.specs.Hearing.{arriving, heard};
 ghost use Rattle.t1s_world.specs.Lists.{each_with};
 ghost use Rattle.t1s_world.specs.Telling.{AreTold};
 ghost use Rattle.t1s_world.specs.World.{after_drive, after_hear, row_of, sensed_by};
-ghost use Rattle.t1s_segment.specs.Rings.{kept_at, pushed, ring_at};
+ghost use Rattle.t1s_segment.specs.Rings.{kept_at, kept_tick, pushed, ring_at};
 ghost use Rattle.t1s_segment.specs.Track.{track_machine};
 ghost use Rattle.t1s_segment.specs.World.{after_sensed, all_ok, events_of};
 
@@ -97,5 +97,27 @@ pub fn hear_all(
         let heard = hear_at(places, rings, j);
         let clash = tracks[j].hear(tick, heard);
         totals[j] = totals[j].after_clash(clash);
+    }
+}
+
+/// What node j heard in the tick that was played last, and whether it drove in it. Before its start it did
+/// neither.
+pub fn kept_tick(
+    tracks: &[Track],
+    places: &[u8],
+    rings: &[Ring],
+    tick: u64,
+    j: usize,
+) -> (Heard, bool)
+    requires in_range { j < length tracks.now }
+    requires tracks { length tracks.now ≡ length places.now }
+    requires rings { length rings.now ≡ length places.now }
+    ensures { result ≡ kept_tick tracks.now places.now rings.now tick j }
+{
+    let track = &tracks[j];
+    if tick < track.start {
+        (Heard::Nothing, false)
+    } else {
+        (hear_at(places, rings, j), track.driving)
     }
 }

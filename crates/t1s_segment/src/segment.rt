@@ -2,14 +2,15 @@ ghost use Rattle.std.specs.Prelude.{◌≡◌, IfOk, []};
 ghost use Rattle.circular_buffer.specs.Buffer.{buffer};
 ghost use Rattle.t1s_segment.specs.State.{settled_after};
 
-use crate::phases::{HISTORY, Ring, all_ok, drive_all, hear_all};
+use crate::phases::{HISTORY, Ring, all_ok, drive_all, hear_all, kept_tick};
 use crate::totals::{NodeTotals, totals_of};
-use crate::track::Track;
+use crate::track::{Track, position_of};
 use crate::watch::Watch;
 use circular_buffer::HeapCircularBuffer;
 use std::alloc::{AllocError, Global};
 use std::marker::Model;
 use t1s_script::Script;
+use t1s_symbols::Heard;
 
 /// A segment in its run.
 #[derive(Drop)]
@@ -65,12 +66,13 @@ fn settled_after(settled: Option<u64>, tick: u64, ok: bool) -> Option<u64>
 }
 
 impl Segment {
-    ghost use Rattle.std.specs.Prelude.{◌≡◌, ℕ, ◌+◌, ◌<◌, ◌≤◌, ◌==◌, find, IfOk, IsTrue, ◌↔◌};
+    ghost use Rattle.std.specs.Prelude.{◌≡◌, ℕ, ◌+◌, ◌<◌, ◌≤◌, ◌==◌, find, IfOk, IfSome, IsTrue, ◌↔◌};
+    ghost use Rattle.t1s_symbols.specs.Ranges.{IsHeard};
     ghost use Rattle.t1s_world.specs.Telling.{AreTold};
     ghost use Rattle.t1s_script.specs.Script.{IsScript};
     ghost use Rattle.t1s_script.specs.declared.script.Script.{Script};
     ghost use Rattle.t1s_segment.specs.declared.totals.NodeTotals.{NodeTotals};
-    ghost use Rattle.t1s_segment.specs.World.{events_at, settled_below, totals_below};
+    ghost use Rattle.t1s_segment.specs.World.{events_at, last_heard, settled_below, totals_below};
     ghost use Rattle.t1s_segment.specs.Stands.{Stands, ticks_left};
 
     /// The segment of a valid script, before its first tick. It takes all memory of the run.
@@ -141,6 +143,27 @@ impl Segment {
         self.tick = tick + 1;
     }
 
+    /// What the node with this number heard in the last tick that was played, and whether it drove in it:
+    /// `(Nothing, false)` before its start. None where the script has no such node, and where no tick was
+    /// played.
+    pub fn heard(&self, node: u8) -> Option<(Heard, bool)>
+        ensures value { (s : Script) (t : ℕ) → Stands s t self.now → result ≡ last_heard s node t }
+        ensures range { (s : Script) (t : ℕ) → Stands s t self.now → IfSome result (λ r. IsHeard r.0) }
+    {
+        if self.tick == 0 {
+            return None;
+        }
+        let tracks = self.tracks.as_slice();
+        let j = position_of(tracks, node)?;
+        Some(kept_tick(
+            tracks,
+            self.places.as_slice(),
+            self.rings.as_slice(),
+            self.tick - 1,
+            j,
+        ))
+    }
+
     /// The first tick in which every node's status was OK. None where there was none so far.
     pub fn settled(&self) -> Option<u64>
         ensures { (s : Script) (t : ℕ) → Stands s t self.now → result ≡ settled_below s t }
@@ -162,6 +185,7 @@ mod tests {
     use crate::watch::Event;
     use std::test::Fail;
     use t1s_script::read_script;
+    use t1s_symbols::{Quarter, Symbol};
 
     /// Keeps the last events, and how many there were.
     #[derive(Drop)]
@@ -183,16 +207,74 @@ mod tests {
         }
     }
 
+    impl Tally {
+        fn new() -> Tally {
+            Tally {
+                beacons: 0,
+                quiets: 0,
+                last_status: None,
+            }
+        }
+    }
+
+    /// Plays the ticks below this one, or to the end of the run.
+    fn play_below(segment: &mut Segment, tick: u64) {
+        let mut tally = Tally::new();
+        while segment.now() < tick && !segment.at_end() {
+            segment.tick(&mut tally);
+        }
+    }
+
+    /// One quarter of a beacon.
+    fn beacon(part: u8) -> Heard {
+        Heard::One(Quarter {
+            sym: Symbol::N,
+            part,
+        })
+    }
+
+    #[test]
+    fn tells_what_each_node_heard_in_the_last_tick(rt: HostRuntime) -> Result<(), Fail> {
+        let text = b"t1s 1\ncount 3\nnode 0 0 0\nnode 1 1 2\nnode 2 2 5\nlate 2 8270\nend 8300\n";
+        let script = read_script(rt.alloc(), text)?;
+        let mut segment = Segment::new(rt.alloc(), &script)?;
+        assert_eq!(rt; segment.heard(0), None, "before the first tick");
+        play_below(&mut segment, 8257);
+        assert_eq!(rt; segment.heard(0), Some((Heard::Nothing, true)));
+        assert_eq!(rt; segment.heard(1), Some((Heard::Nothing, false)));
+        assert_eq!(rt; segment.heard(3), None, "there is no such node");
+        play_below(&mut segment, 8259);
+        assert_eq!(rt; segment.heard(1), Some((beacon(0), false)));
+        play_below(&mut segment, 8270);
+        assert_eq!(rt; segment.heard(1), Some((beacon(3), false)));
+        assert_eq!(rt;
+            segment.heard(2),
+            Some((Heard::Nothing, false)),
+            "before its start"
+        );
+        play_below(&mut segment, 8271);
+        assert_eq!(rt; segment.heard(2), Some((beacon(1), false)));
+        Ok(())
+    }
+
+    #[test]
+    fn two_beacons_at_once_are_heard_as_many_by_others(rt: HostRuntime) -> Result<(), Fail> {
+        let text = b"t1s 1\ncount 3\nnode 0 0 0\nnode 1 1 0\nnode 7 0 0\nend 8300\n";
+        let script = read_script(rt.alloc(), text)?;
+        let mut segment = Segment::new(rt.alloc(), &script)?;
+        play_below(&mut segment, 8257);
+        assert_eq!(rt; segment.heard(0), Some((beacon(0), true)));
+        assert_eq!(rt; segment.heard(7), Some((beacon(0), true)));
+        assert_eq!(rt; segment.heard(1), Some((Heard::Many, false)));
+        Ok(())
+    }
+
     #[test]
     fn two_coordinators_at_one_place_clash(rt: HostRuntime) -> Result<(), Fail> {
         let text = b"t1s 1\ncount 2\nnode 0 0 0\nnode 7 0 0\nend 8300\n";
         let script = read_script(rt.alloc(), text)?;
         let mut segment = Segment::new(rt.alloc(), &script)?;
-        let mut tally = Tally {
-            beacons: 0,
-            quiets: 0,
-            last_status: None,
-        };
+        let mut tally = Tally::new();
         assert_eq!(rt; segment.now(), 0);
         while !segment.at_end() {
             segment.tick(&mut tally);

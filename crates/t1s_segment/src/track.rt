@@ -1,6 +1,7 @@
-ghost use Rattle.std.specs.Prelude.{◌≡◌, ◌*◌, IsTrue};
+ghost use Rattle.std.specs.Prelude.{◌≡◌, ◌*◌, ◌==◌, IsTrue, position};
 ghost use Rattle.t1s_world.specs.Telling.{AreTold};
 ghost use Rattle.plca_control.specs.Ranges.{IsControlSet};
+ghost use Rattle.t1s_segment.specs.declared.track.Track.{Track};
 ghost use Rattle.t1s_segment.specs.Track.{drive_events, drive_track, hear_track, status_events};
 ghost use Rattle.t1s_segment.specs.World.{set_of, first_track};
 
@@ -101,4 +102,11 @@ impl Track {
         }
         self.node.hear(heard)
     }
+}
+
+/// The position of the node with this number, if there is one.
+pub fn position_of(tracks: &[Track], node: u8) -> Option<usize>
+    ensures { result ≡ position (λ (k : Track). k.no == node) tracks.now }
+{
+    tracks.iter().position(|track| track.no == node)
 }

@@ -1,12 +1,14 @@
--- What a node hears: one more node, two pasts that agree, and who arrives alone.
-use Rattle.std.proofs.Common.{◌≡◌, ℕ, suc, ◌+◌, ◌<◌, ◌≤◌, List, [], ◌∷◌, ◌++◌, length, get_or, take, Option, None, Some, true, false, eqb, refl, sym, ◌∙◌, ap, arith, rules, add-zero, append_assoc, inl, inr}
+-- What a node hears: one more node, two pasts that agree, who arrives alone, and its range.
+use Rattle.std.proofs.Common.{◌≡◌, ℕ, suc, ◌+◌, ◌<◌, ◌≤◌, List, [], ◌∷◌, ◌++◌, length, get_or, take, Option, None, Some, Bool, true, false, cond, eqb, refl, sym, ◌∙◌, ap, arith, rules, add-zero, append_assoc, inl, inr}
 use Rattle.std.proofs.lemmas.List.{append-nil, take_more, length-take-le}
 use Rattle.std.proofs.lemmas.Bool.{cases_eq}
 use Rattle.std.proofs.lemmas.Bool.Decides.{nat_tests}
 use Rattle.std.specs.Int.{abs_diff}
 use Rattle.std.specs.Option.{option_to_list}
+use Rattle.std.specs.Prelude.{IfSome}
 use Rattle.t1s_symbols.specs.declared.Heard.TheVariants.{Nothing}
 use Rattle.t1s_symbols.specs.declared.Quarter.{Quarter}
+use Rattle.t1s_symbols.specs.Ranges.{IsQuarter, IsHeard}
 use Rattle.t1s_world.specs.Hearing.{heard_of, heard_with, arriving, arriving_from, heard}
 
 -- one more quarter, or none
@@ -66,3 +68,25 @@ pub heard_nothing : (at : ℕ → ℕ → Option Quarter) (places : List ℕ) (j
 unfolding heard
 heard_nothing at places j none =
     ap heard_of (arriving_from_none at j (get_or places j 0) 0 places (λ i d h ne. none i d (omega arith) ne))
+
+-- where all that was driven is in range, so is what is heard
+heard_of_in_range : (o : Option Quarter) (qs : List Quarter) → IfSome o IsQuarter → IsHeard (heard_of qs) → IsHeard (heard_of (option_to_list o ++ qs))
+heard_of_in_range None qs h rest = rest
+heard_of_in_range (Some q) [] h rest = h
+heard_of_in_range (Some q) (r ∷ qs) h rest = tt
+
+unless_own : (b : Bool) (o : Option Quarter) → IfSome o IsQuarter → IfSome (cond b None o) IsQuarter
+unless_own true o h = tt
+unless_own false o h = h
+
+module _ (at : ℕ → ℕ → Option Quarter) (ranges : (i d : ℕ) → IfSome (at i d) IsQuarter) (j : ℕ) where
+  arriving_in_range : (x s : ℕ) (ys : List ℕ) → IsHeard (heard_of (arriving_from at j x s ys))
+  arriving_in_range x s [] = tt
+  arriving_in_range x s (y ∷ ys) =
+      heard_of_in_range (arriving at j x s y) (arriving_from at j x (s + 1) ys)
+      (unless_own (eqb s j) (at s (abs_diff x y)) (ranges s (abs_diff x y)))
+      (arriving_in_range x (s + 1) ys)
+
+  pub heard_in_range : (places : List ℕ) → IsHeard (heard at places j)
+  unfolding heard
+  heard_in_range places = arriving_in_range (get_or places j 0) 0 places

@@ -1,7 +1,8 @@
 -- Lists: elements of a mapped list, lists that are rewritten from the front, and elements changed pairwise.
-use Rattle.std.proofs.Common.{◌≡◌, ℕ, zero, suc, ◌+◌, ◌<◌, List, [], ◌∷◌, ◌++◌, length, get_or, map, take, drop, set, Some, refl, ◌∙◌, ap, sym, arith, append_assoc}
+use Rattle.std.proofs.Common.{◌≡◌, ℕ, zero, suc, ◌+◌, ◌<◌, Bool, not, cond, List, [], ◌∷◌, ◌++◌, length, get_or, map, take, drop, set, position, Some, refl, ◌∙◌, ap, sym, arith, append_assoc}
 use Rattle.std.specs.Prelude.{slice_get}
-use Rattle.std.proofs.lemmas.List.{drop_more, set_at, get_or_at, take_more, length-take-le}
+use Rattle.std.specs.List.{prefix_len}
+use Rattle.std.proofs.lemmas.List.{length-map, drop_more, set_at, get_or_at, take_more, length-take-le}
 use Rattle.t1s_world.specs.Lists.{each_with}
 
 -- an element of a mapped list
@@ -14,6 +15,14 @@ pub get_or-map : {X Y : Type 0} (f : X → Y) (xs : List X) (i : ℕ) (x : X) (d
 get_or-map f [] i x d e = cc
 get_or-map f (y ∷ xs) zero x d e = cc
 get_or-map f (y ∷ xs) (suc i) x d e = get_or-map f xs i x d e
+
+-- the first element of a mapped list that passes a test
+prefix_len-map : {X Y : Type 0} (f : X → Y) (p : Y → Bool) (xs : List X) → prefix_len p (map f xs) ≡ prefix_len (λ x. p (f x)) xs
+prefix_len-map f p [] = refl
+prefix_len-map f p (x ∷ xs) = ap (λ (n : ℕ). cond (p (f x)) (1 + n) 0) (prefix_len-map f p xs)
+
+pub position-map : {X Y : Type 0} (f : X → Y) (p : Y → Bool) (xs : List X) → position p (map f xs) ≡ position (λ x. p (f x)) xs
+position-map f p xs = rw (prefix_len-map f (λ y. not (p y)) xs, length-map xs f) refl
 
 -- a list that is rewritten from the front: one more element is written
 pub written_more : {X : Type 0} (done xs ys : List X) (i : ℕ) (y d : X) → length done ≡ i → i < length xs → ys ≡ done ++ drop i xs → set ys i y ≡ (done ++ y ∷ []) ++ drop (i + 1) xs

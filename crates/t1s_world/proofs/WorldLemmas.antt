@@ -1,5 +1,5 @@
 -- The world one tick on, and one node of it from tick to tick.
-use Rattle.std.proofs.Common.{◌≡◌, ℕ, zero, suc, ◌+◌, ◌<◌, ◌≤◌, List, take, drop, set, [], ◌∷◌, ◌++◌, length, get_or, drop, set, None, Some, refl, ◌∙◌, ap, arith, add-zero, zero-add}
+use Rattle.std.proofs.Common.{◌≡◌, ℕ, zero, suc, ◌+◌, ◌<◌, ◌≤◌, List, take, drop, set, [], ◌∷◌, ◌++◌, length, get_or, map, None, Some, refl, ◌∙◌, ap, arith, add-zero, zero-add}
 use Rattle.std.specs.Prelude.{slice_get}
 use Rattle.std.proofs.lemmas.List.{length-map, get_or_past, take_more, length-take-le}
 use Rattle.t1s_symbols.specs.declared.Heard.{Heard}
@@ -126,3 +126,21 @@ module _ {Kept Driven Sensed : Type 0} (m : Machine Kept Driven Sensed) (places 
   driven_past t i h =
       let nodes : List Kept = (past m places first t).nodes in
       get_or_past (row_of m t nodes) i None (omega (arith, length-map nodes (λ n. m.quarter (m.drive t n).1), length-nodes t))
+
+  -- what no phase of a tick changes is as it was at first, node by node
+  module _ {X : Type 0} (f : Kept → X) (driving : (t : ℕ) (n : Kept) → f (m.drive t n).0 ≡ f n) (hearing : (t : ℕ) (x : Heard) (n : Kept) → f (m.hear t x n).0 ≡ f n) where
+    after_drive_keeps : (t : ℕ) (ns : List Kept) → map f (after_drive m t ns) ≡ map f ns
+    after_drive_keeps t [] = refl
+    after_drive_keeps t (n ∷ ns) = let e = driving t n in let rest = after_drive_keeps t ns in rw (e, rest) refl
+
+    after_hear_keeps : (t : ℕ) (h : ℕ → Heard) (s : ℕ) (ns : List Kept) → map f (after_hear m t h s ns) ≡ map f ns
+    after_hear_keeps t h s [] = refl
+    after_hear_keeps t h s (n ∷ ns) = let e = hearing t (h s) n in let rest = after_hear_keeps t h (s + 1) ns in rw (e, rest) refl
+
+    pub past_keeps : (t : ℕ) → map f (past m places first t).nodes ≡ map f first
+    past_keeps zero = rw past-zero refl
+    past_keeps (suc t) =
+        let nodes : List Kept = (past m places first t).nodes in
+        rw (nodes-suc t)
+        (after_hear_keeps t (heard (at_depth (past m places first (suc t)).rows) places) 0 (after_drive m t nodes)
+        ∙ (after_drive_keeps t nodes ∙ past_keeps t))

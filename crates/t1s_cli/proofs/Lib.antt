@@ -1,4 +1,5 @@
 pub mod Puts
+mod Recorded
 pub mod Ascending
 pub mod Text
 pub mod Ends

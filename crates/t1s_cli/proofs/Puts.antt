@@ -50,7 +50,7 @@ front_more o p q a b h (n, k) = (length a + n, rw (take-append-add a b n) (grows
 pub front_wider : (o p : Option (List ℕ)) (a b : List ℕ) → GrowsByFront o p a → GrowsByFront o p (a ++ b)
 front_wider o p a b (n, k) = (min n (length a), rw (take_within a b n) k)
 
-events_prefix : {E : Type 0} (events : ℕ → List E) (t d : ℕ) → (rest : List E) × (events_below events (t + d) ≡ events_below events t ++ rest)
+pub events_prefix : {E : Type 0} (events : ℕ → List E) (t d : ℕ) → (rest : List E) × (events_below events (t + d) ≡ events_below events t ++ rest)
 events_prefix {E} events t zero = ([], rw (add-zero, append-nil (events_below events t)) refl)
 events_prefix {E} events t (suc d) =
     let (rest, more) = events_prefix events t d in
@@ -124,7 +124,7 @@ module _ {K : Type 0} (written : K → Option (List ℕ)) (faults : K → ℕ) w
       (puts_more w u v (event_lines_below s t) (flat_map told_line (events_at s t)) p (puts_told u v (events_at s t) told))
 
   -- after a stop the rest of the text is not written
-  puts_stopped : (w u v : Writer K) (a b c : List ℕ) → u.stopped ≡ true → Puts written faults w a u → Puts written faults u b v → Puts written faults w (a ++ c) v
+  pub puts_stopped : (w u v : Writer K) (a b c : List ℕ) → u.stopped ≡ true → Puts written faults w a u → Puts written faults u b v → Puts written faults w (a ++ c) v
   puts_stopped w u v a b c stop h k = record {
     same_reference = k.same_reference ∙ h.same_reference;
     later = omega (arith, h.later, k.later);

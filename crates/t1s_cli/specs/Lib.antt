@@ -1,5 +1,6 @@
 pub mod Text
 pub mod Report
+pub mod HeardText
 pub mod Writing
 pub mod Words
 pub mod Answers

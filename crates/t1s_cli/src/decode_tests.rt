@@ -22,7 +22,7 @@ const BEACON_AND_RUN: &[u8] =
 \x18\x18\x04\x04\x0B\x0B\x0B\x09\x16\x16\x16\x1D\x17\x16\x1C\x1B\x0D\x07\x21";
 
 /// Decodes octets that are given as they are asked for, and one octet a read, without a fault.
-fn check(
+pub(crate) fn check(
     rt: &impl Abort,
     alloc: Global,
     octets: &[u8],

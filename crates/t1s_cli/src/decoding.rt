@@ -5,12 +5,10 @@ ghost use Rattle.t1s_cli.specs.Decoding.{IsDecoding, HasDecoded, HasStopped, Dec
 
 use crate::decode_lines::{end_line, item_line, offence_line};
 use crate::ending::write_last;
+use crate::reading::PIECE;
 use crate::status::Status;
 use t1s_base::{Failed, Sink, Source};
 use t1s_capture::{Decoder, Next};
-
-/// How many octets are asked for at once.
-const PIECE: usize = 4096;
 
 /// Takes one octet, and writes the line of the item that is handed out at it, or of its refusal. `Err` is the
 /// answer with which the decoding ends here.

@@ -13,7 +13,7 @@ use t1s_base::{Failed, Sink};
 use t1s_segment::Segment;
 
 /// Whether a tick is still to be played, and its events can be written.
-fn goes_on<K: Sink>(seg: &Segment, writer: &Writer<'_, K>) -> bool
+pub(crate) fn goes_on<K: Sink>(seg: &Segment, writer: &Writer<'_, K>) -> bool
     ensures more { IsTrue result → 0 < ticks_left seg.now }
     ensures no_more { (s : Script) (t : ℕ) → Stands s t seg.now → IsFalse result → (writer.now.stopped ≡ true) ⊎ (t ≡ s.end) }
 {
@@ -34,7 +34,7 @@ fn write_report<K: Sink>(seg: &mut Segment, writer: &mut Writer<'_, K>)
 
 /// Plays the segment to its end, and writes the line of each event and then the summary, each line by
 /// one `write` call. After a write that stops it makes no further call on the sink, and plays no further
-/// tick. It takes no memory.
+/// tick. It takes no memory. `Failed` comes exactly where a write stopped.
 pub fn play<K: Sink>(seg: &mut Segment, sink: &mut K) -> Result<(), Failed>
     requires { seg.old.tick ≡ 0 }
     ensures text { (s : Script) → Stands s 0 seg.old → OnOk result (Grows (K.written sink.old) (K.written sink.new) (report s)) }

@@ -8,7 +8,7 @@ use std::alloc::Global;
 use t1s_base::{Failed, Source};
 
 /// How many octets are asked for at once.
-const PIECE: usize = 4096;
+pub(crate) const PIECE: usize = 4096;
 
 /// At this octet the reading ends: a script has fewer.
 const LAST: usize = 1_048_577;

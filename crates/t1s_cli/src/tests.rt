@@ -51,10 +51,10 @@ pub(crate) fn call<S: Source + Drop>(
 }
 
 /// An input, the numbers of the reads and the writes that fail, the answer, and what is written.
-type Row<'a> = (&'a [u8], &'a [u64], &'a [u64], Status, &'a [u8]);
+pub(crate) type Row<'a> = (&'a [u8], &'a [u64], &'a [u64], Status, &'a [u8]);
 
 /// Sees that these words give each row its answer and its text.
-fn check_rows(
+pub(crate) fn check_rows(
     rt: &impl Abort,
     alloc: Global,
     words: &[&str],
@@ -97,8 +97,40 @@ fn scripts_are_run_or_refused(rt: HostRuntime) -> Result<(), Fail> {
 }
 
 #[test]
+fn refusals_of_scripts_are_written(rt: HostRuntime) -> Result<(), Fail> {
+    let table: [(&[u8], &[u8]); 7] = [
+        (b"t1s 1\nnod 0 0 0\n", b"refused 2 UnknownWord\n"),
+        (b"t1s 1\nto 15\n", b"refused 2 OutOfRange\n"),
+        (b"t1s 1\nto 032\n", b"refused 2 Number\n"),
+        (b"t1s 1\nend 10\n", b"refused 2 NoNode\n"),
+        (b"t1s 1\nnode 0 0 0\n", b"refused 3 NoEnd\n"),
+        (
+            b"t1s 1\ncount 3\nnode 0 0 0\nnode 1 1 2\nnode 2 2 5\nend 9\nend 9\n",
+            b"refused 7 AfterEnd\n",
+        ),
+        (
+            b"t1s 1\ncount 3\nnode 0 0 0\nnode 1 1 2\nnode 2 2 5\nlate 9 5\n",
+            b"refused 6 UnknownNode\n",
+        ),
+    ];
+    for (script, line) in table {
+        let row: Row<'_> = (script, &[], &[], Status::Refused, line);
+        check_rows(&rt, rt.alloc(), &["run"], &[row])?;
+    }
+    Ok(())
+}
+
+#[test]
 fn other_words_are_usage(rt: HostRuntime) -> Result<(), Fail> {
-    let wrong: [&[&str]; 4] = [&[], &["run", "run"], &["capture", "16"], &["capture", "01"]];
+    let wrong: [&[&str]; 7] = [
+        &[],
+        &["run", "run"],
+        &["capture"],
+        &["capture", "16"],
+        &["capture", "01"],
+        &["capture", "-1"],
+        &["capture", "2", "2"],
+    ];
     for words in wrong {
         check_rows(
             &rt,

@@ -1,5 +1,5 @@
 // All that the program does.
-ghost use Rattle.std.specs.Prelude.{◌≡◌, ◌≢◌, ◌⊎◌, ◌↔◌, ◌^◌, ◌≤◌, ℕ, List, [], length, true, Ok, Err, Some, IsOk, IsErr, drop};
+ghost use Rattle.std.specs.Prelude.{◌≡◌, ◌≢◌, ◌⊎◌, ◌↔◌, ◌^◌, ◌≤◌, ◌<◌, ℕ, List, [], length, true, Ok, Err, Some, IsOk, drop};
 ghost use Rattle.t1s_base.specs.Causes.{Rose};
 ghost use Rattle.t1s_base.specs.Octets.{Gives, Grows, GrowsByFront};
 ghost use Rattle.t1s_script.specs.Reading.{script_of};
@@ -10,13 +10,14 @@ ghost use Rattle.t1s_script.specs.declared.refusals.ScriptRefusal.{ScriptRefusal
 ghost use Rattle.t1s_capture.specs.declared.items.Refusal.{Refusal};
 ghost use Rattle.t1s_capture.specs.Captures.{IsCapture, IsCapturePrefix};
 ghost use Rattle.t1s_capture.specs.Offences.{IsFirstOffence};
-ghost use Rattle.t1s_cli.specs.Answers.{Ends, status_after, task_text, text_after};
+ghost use Rattle.t1s_cli.specs.Answers.{Ends, IsRefusedBy, answer_of, has_node, status_of, task_answer, text_of};
 ghost use Rattle.t1s_cli.specs.Beacons.{HasBeacons};
 ghost use Rattle.t1s_cli.specs.Decoded.{IsItemText, IsCaptureText, IsOffenceText, IsDecodedText};
 ghost use Rattle.t1s_cli.specs.Decoding.{IsReadInPieces};
+ghost use Rattle.t1s_cli.specs.HeardText.{heard_text};
 ghost use Rattle.t1s_cli.specs.Report.{report};
 ghost use Rattle.t1s_cli.specs.Text.{check_line, refused_line};
-ghost use Rattle.t1s_cli.specs.Words.{AreRun, AreCheck, AreOnScript, AreDecode, AreCommand};
+ghost use Rattle.t1s_cli.specs.Words.{AreRun, AreCheck, AreCapture, AreOnScript, AreDecode, AreCommand};
 
 use crate::commands::{Command, ScriptTask, command_of};
 use crate::decoding::decode;
@@ -24,11 +25,18 @@ use crate::ending::{finish, write_last};
 use crate::lines::{check_line, refused_line};
 use crate::playing::play;
 use crate::reading::{ReadStop, read_whole};
+use crate::recording::record;
 use crate::status::Status;
 use std::alloc::Global;
 use t1s_base::{Sink, Source};
-use t1s_script::{Script, ScriptFault, ScriptRefusal, read_script};
+use t1s_script::{Script, ScriptFault, ScriptReason, ScriptRefusal, read_script};
 use t1s_segment::Segment;
+
+/// The script has no node with the number that is asked for: a refusal of no line.
+const NO_SUCH_NODE: ScriptRefusal = ScriptRefusal {
+    line: 0,
+    reason: ScriptReason::UnknownNode,
+};
 
 /// Writes the line of a refusal.
 fn refuse<K: Sink>(refusal: &ScriptRefusal, sink: &mut K) -> Status
@@ -51,20 +59,49 @@ fn run_script<K: Sink>(alloc: Global, script: &Script, sink: &mut K) -> Status
     }
 }
 
-/// Does the task with a script, and writes its text.
+/// Whether the script has a node with this number.
+fn has_node(script: &Script, node: u8) -> bool
+    ensures { result ≡ has_node script.now node }
+{
+    script.nodes.as_slice().iter().any(|line| line.no == node)
+}
+
+/// Writes what a node of the script hears in its run, as a capture.
+fn capture_script<K: Sink>(alloc: Global, node: u8, script: &Script, sink: &mut K) -> Status
+    requires valid { IsScript script.now }
+    requires node { node < 16 }
+    ensures { Ends K.written K.faults K.finished Status.Done (heard_text script.now node) sink.old sink.new result }
+{
+    match Segment::new(alloc, script) {
+        Ok(mut seg) => match record(&mut seg, node, sink) {
+            Ok(()) => finish(sink, Status::Done),
+            Err(_) => Status::WriteFault,
+        },
+        Err(_) => Status::Memory,
+    }
+}
+
+/// Does the task with a script, and writes its text, or why the task refuses the script.
 fn serve_script<K: Sink>(alloc: Global, task: ScriptTask, script: &Script, sink: &mut K) -> Status
     requires { IsScript script.now }
-    ensures { Ends K.written K.faults K.finished Status.Done (task_text task script.now) sink.old sink.new result }
+    ensures { Ends K.written K.faults K.finished (status_of (task_answer task script.now)) (text_of (task_answer task script.now)) sink.old sink.new result }
 {
     match task {
         ScriptTask::Run => run_script(alloc, script, sink),
         ScriptTask::Check => write_last(&check_line(script), sink, Status::Done),
+        ScriptTask::Capture(node) => {
+            if has_node(script, node) {
+                capture_script(alloc, node, script, sink)
+            } else {
+                refuse(&NO_SUCH_NODE, sink)
+            }
+        }
     }
 }
 
 /// Reads the octets of a script and does the task with it, or writes why it is refused.
 fn serve_octets<K: Sink>(alloc: Global, task: ScriptTask, bytes: &[u8], sink: &mut K) -> Status
-    ensures { Ends K.written K.faults K.finished (status_after (script_of bytes.now)) (text_after (task_text task) (script_of bytes.now)) sink.old sink.new result }
+    ensures { Ends K.written K.faults K.finished (status_of (answer_of task bytes.now)) (text_of (answer_of task bytes.now)) sink.old sink.new result }
 {
     match read_script(alloc, bytes) {
         Ok(script) => serve_script(alloc, task, &script, sink),
@@ -82,9 +119,18 @@ fn serve_octets<K: Sink>(alloc: Global, task: ScriptTask, bytes: &[u8], sink: &m
 /// With the one word `check` it reads a script in the same way, and writes whether it is fit by one `write`
 /// call: the span and the bound, or the first premise that isn't met and its two values.
 ///
+/// With the word `capture` and the number of a node it reads a script in the same way, and writes the capture of
+/// what that node hears in the script's run: the header, at most one text in each tick, and the last octets, each by
+/// one `write` call. Where the script has no such node it writes the refusal `UnknownNode` of line 0.
+///
 /// With the one word `decode` it reads a capture in such pieces, up to the octet that is refused, and writes
 /// the line of each item and the line of the end or of the refusal, each by one `write` call. It takes no
 /// memory for that.
+///
+/// The answers: `Usage` where the words are no row of this table, and nothing was read or written. `ReadFault` and
+/// `WriteFault` where the source or the sink failed, at once. `Refused` where the input is no script or no capture, or
+/// the node is missing, and the last line says so. `Memory` for want of it, before the first octet is written. `Done` in
+/// all other cases.
 pub fn workbench<S: Source, K: Sink>(
     alloc: Global,
     words: &[String],
@@ -104,11 +150,10 @@ pub fn workbench<S: Source, K: Sink>(
     ensures write_fault { result ≡ Status.WriteFault → Rose (K.faults sink.old) (K.faults sink.new) }
     ensures no_write_fault { result ≢ Status.WriteFault → K.faults sink.new ≡ K.faults sink.old }
     ensures write_fault_front { (octets : List ℕ) → AreRun words.now → S.left source.old ≡ Some octets → result ≡ Status.WriteFault →
-        GrowsByFront (K.written sink.old) (K.written sink.new) (text_after report (script_of octets)) }
+        GrowsByFront (K.written sink.old) (K.written sink.new) (text_of (answer_of ScriptTask.Run octets)) }
     ensures memory_writes_nothing { result ≡ Status.Memory → sink.new ≡ sink.old }
-    ensures refused { (octets : List ℕ) → AreOnScript words.now → S.left source.old ≡ Some octets → result ≡ Status.Refused → IsErr (script_of octets) }
-    ensures refused_line { (octets : List ℕ) (refusal : ScriptRefusal) → AreOnScript words.now → S.left source.old ≡ Some octets → script_of octets ≡ Err refusal →
-        result ≡ Status.Refused → Grows (K.written sink.old) (K.written sink.new) (refused_line refusal) }
+    ensures refused { (octets : List ℕ) → AreOnScript words.now → S.left source.old ≡ Some octets → result ≡ Status.Refused →
+        (refusal : ScriptRefusal) × IsRefusedBy words.now octets refusal × Grows (K.written sink.old) (K.written sink.new) (refused_line refusal) }
     ensures refused_finishes { result ≡ Status.Refused → K.finished sink.new ≡ true }
     ensures done { (octets : List ℕ) → AreOnScript words.now → S.left source.old ≡ Some octets → result ≡ Status.Done → IsOk (script_of octets) }
     ensures done_report { (octets : List ℕ) (s : Script) → AreRun words.now → S.left source.old ≡ Some octets → script_of octets ≡ Ok s →
@@ -118,7 +163,7 @@ pub fn workbench<S: Source, K: Sink>(
     ensures script_is_played { (octets : List ℕ) (s : Script) → AreRun words.now → S.left source.old ≡ Some octets → script_of octets ≡ Ok s →
         ¬ (Rose (S.faults source.old) (S.faults source.new)) → ¬ (Rose (K.faults sink.old) (K.faults sink.new)) →
         (result ≡ Status.Done) ⊎ (result ≡ Status.Memory) }
-    ensures other_input_is_refused { (octets : List ℕ) (refusal : ScriptRefusal) → AreOnScript words.now → S.left source.old ≡ Some octets → script_of octets ≡ Err refusal →
+    ensures other_input_is_refused { (octets : List ℕ) (refusal : ScriptRefusal) → AreOnScript words.now → S.left source.old ≡ Some octets → IsRefusedBy words.now octets refusal →
         ¬ (Rose (S.faults source.old) (S.faults source.new)) → ¬ (Rose (K.faults sink.old) (K.faults sink.new)) →
         (result ≡ Status.Refused) ⊎ (result ≡ Status.Memory) }
     ensures beacons { (octets : List ℕ) (s : Script) → AreRun words.now → S.left source.old ≡ Some octets → has_thin_form octets ≡ true →
@@ -126,9 +171,16 @@ pub fn workbench<S: Source, K: Sink>(
     ensures checked { (octets : List ℕ) (s : Script) → AreCheck words.now → S.left source.old ≡ Some octets → script_of octets ≡ Ok s →
         result ≡ Status.Done → Grows (K.written sink.old) (K.written sink.new) (check_line s) }
     ensures check_write_fault_front { (octets : List ℕ) → AreCheck words.now → S.left source.old ≡ Some octets → result ≡ Status.WriteFault →
-        GrowsByFront (K.written sink.old) (K.written sink.new) (text_after check_line (script_of octets)) }
+        GrowsByFront (K.written sink.old) (K.written sink.new) (text_of (answer_of ScriptTask.Check octets)) }
     ensures script_is_checked { (octets : List ℕ) (s : Script) → AreCheck words.now → S.left source.old ≡ Some octets → script_of octets ≡ Ok s →
         ¬ (Rose (S.faults source.old) (S.faults source.new)) → ¬ (Rose (K.faults sink.old) (K.faults sink.new)) →
+        (result ≡ Status.Done) ⊎ (result ≡ Status.Memory) }
+    ensures captured { (octets : List ℕ) (s : Script) (node : ℕ) → AreCapture words.now node → S.left source.old ≡ Some octets → script_of octets ≡ Ok s →
+        result ≡ Status.Done → (has_node s node ≡ true) × Grows (K.written sink.old) (K.written sink.new) (heard_text s node) }
+    ensures capture_write_fault_front { (octets : List ℕ) (node : ℕ) → AreCapture words.now node → S.left source.old ≡ Some octets → result ≡ Status.WriteFault →
+        GrowsByFront (K.written sink.old) (K.written sink.new) (text_of (answer_of (ScriptTask.Capture node) octets)) }
+    ensures script_is_captured { (octets : List ℕ) (s : Script) (node : ℕ) → AreCapture words.now node → S.left source.old ≡ Some octets → script_of octets ≡ Ok s →
+        has_node s node ≡ true → ¬ (Rose (S.faults source.old) (S.faults source.new)) → ¬ (Rose (K.faults sink.old) (K.faults sink.new)) →
         (result ≡ Status.Done) ⊎ (result ≡ Status.Memory) }
     ensures decoded { (octets : List ℕ) → AreDecode words.now → S.left source.old ≡ Some octets → result ≡ Status.Done →
         (text : List ℕ) × IsCaptureText octets text × Grows (K.written sink.old) (K.written sink.new) text }

@@ -1,4 +1,4 @@
-// The watch that writes what it is told.
+// What writes to a sink until a write stops, and a watch that writes what it is told.
 ghost use Rattle.std.specs.Prelude.{◌≡◌, false};
 ghost use Rattle.t1s_cli.specs.Text.{told_line};
 ghost use Rattle.t1s_cli.specs.Writing.{Puts};
@@ -7,7 +7,7 @@ use crate::lines::event_line;
 use t1s_base::{Line, Sink};
 use t1s_segment::{Event, Watch};
 
-/// Writes each line by one `write` call. After the first write that stops it writes nothing more.
+/// Writes each text by one `write` call. After the first write that stops it writes nothing more.
 #[derive(Drop)]
 pub(crate) struct Writer<'a, K: Sink> {
     pub(crate) sink: &'a mut K,
@@ -34,13 +34,20 @@ impl<'a, K: Sink> Writer<'a, K> {
         self.stopped
     }
 
+    /// Writes octets, if there are any, unless a write stopped before.
+    pub(crate) fn put_octets(&mut self, octets: &[u8])
+        ensures { Puts K.written K.faults self.old octets.now self.new }
+    {
+        if !self.stopped && !octets.is_empty() {
+            self.stopped = self.sink.write(octets).is_err();
+        }
+    }
+
     /// Writes a line, unless a write stopped before.
     pub(crate) fn put(&mut self, line: &Line)
         ensures { Puts K.written K.faults self.old line.now self.new }
     {
-        if !self.stopped {
-            self.stopped = self.sink.write(line.as_slice()).is_err();
-        }
+        self.put_octets(line.as_slice());
     }
 }
 

@@ -1,5 +1,8 @@
-use Rattle.std.proofs.Common.{◌≡◌, ℕ, ◌<◌, ◌≤◌, List, [], ◌∷◌, length, get_or, map, codes, Global, refl, arith, rules}
+use Rattle.std.proofs.Common.{◌≡◌, ℕ, ◌<◌, ◌≤◌, List, [], ◌∷◌, length, get_or, map, codes, decimal, Global, Option, Some, refl, sym, ap, ◌∙◌, arith, rules}
+use Rattle.std.specs.Option.{option_map}
 use Rattle.std.specs.String.{string_bytes}
+use Rattle.t1s_cli.specs.declared.commands.Command.TheVariants.{OnScript}
+use Rattle.t1s_cli.specs.declared.commands.ScriptTask.TheVariants.{Capture}
 use Rattle.std.specs.declared.string.String.{String}
 use Rattle.t1s_cli.proofs.commands.command_of.Goals as goal
 
@@ -22,3 +25,29 @@ pub returns-in-len1-3-clause-decode : goal.returns-in-len1-3-clause-decode
 returns-in-len1-3-clause-decode c =
     let same : string_bytes c.word-item-then-words-lt2-2.result ≡ codes "decode" = search rules in
     (λ _. one_word c.args.words.now c.word-item-then-words-lt2-2.result (codes "decode") c.in-len1.len_at_least c.in-len1.len_below c.word-item-then-words-lt2-2.is same, λ _. refl)
+
+two_words : (words : List (String Global)) (word number : String Global) → 2 ≤ length words → length words < 3 → word ≡ get_or words 0 word → number ≡ get_or words 1 number →
+    map string_bytes words ≡ string_bytes word ∷ string_bytes number ∷ []
+two_words [] word number l h at next = absurd (omega arith)
+two_words (w ∷ []) word number l h at next = absurd (omega arith)
+two_words (w ∷ v ∷ []) word number l h at next = rw (← at, ← next) refl
+two_words (w ∷ v ∷ u ∷ words) word number l h at next = absurd (omega arith)
+
+pub returns-in_ok-node-in-len2-clause-capture : goal.returns-in_ok-node-in-len2-clause-capture
+returns-in_ok-node-in-len2-clause-capture c node =
+    let same : string_bytes c.word-item-then-words-lt3.result ≡ codes "capture" = search rules in
+    let words : map string_bytes c.args.words.now ≡ codes "capture" ∷ string_bytes c.number-item.result ∷ [] =
+    rw same at (two_words c.args.words.now c.word-item-then-words-lt3.result c.number-item.result c.in-len2.len_at_least c.in-len2.len_below c.word-item-then-words-lt3.is c.number-item.is) in
+    let octets : c.as_bytes-in-len2.result.now ≡ string_bytes c.number-item.result = c.as_bytes-in-len2.ensures.value in (
+      λ e.
+          let number : c.in_ok-node-in-len2.node ≡ node = cc in
+          let (low, text) = (c.node_number.ensures node).0 (c.in_ok-node-in-len2.was ∙ ap Some number) in
+          (low, words ∙ ap (λ (word : List ℕ). codes "capture" ∷ word ∷ []) (sym octets ∙ text)),
+      λ h.
+          let text : string_bytes c.number-item.result ≡ decimal node = second (sym words ∙ h.1) in
+          let number : ◌≡◌ {A = Option ℕ} (Some c.in_ok-node-in-len2.node) (Some node) = sym c.in_ok-node-in-len2.was ∙ (c.node_number.ensures node).1 (h.0, octets ∙ text) in
+          ap (option_map (λ (n : ℕ). OnScript (Capture n))) number,
+    )
+  where
+    second : {a b : List ℕ} {x : List ℕ} → x ∷ a ∷ [] ≡ x ∷ b ∷ [] → a ≡ b
+    second e = cc

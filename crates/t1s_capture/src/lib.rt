@@ -13,6 +13,7 @@
 #![tactic(auto)]
 
 mod decoder;
+mod format;
 mod items;
 mod kept;
 pub mod laws;

@@ -12,6 +12,7 @@ ghost use Rattle.t1s_capture.specs.Kept.{handed};
 ghost use Rattle.t1s_capture.specs.Marks.{MarkInRange};
 
 use crate::decoder::{Decoder, Held, Next};
+use crate::format::VERSION;
 use crate::items::{Counts, Refusal, Why};
 use crate::kept::{KeptItem, KeptPiece};
 use crate::reader::PieceReader;
@@ -22,8 +23,6 @@ use t1s_grammar::PlaceFault;
 use t1s_pcs_rx::{Closer, Kind};
 use t1s_symbols::Symbol;
 
-/// The only version of the format.
-const VERSION: u8 = 1;
 /// A node's number is below this.
 const NODES: u8 = 16;
 /// The ticks of a symbol.

@@ -6,14 +6,11 @@ ghost use Rattle.t1s_grammar.specs.Steps.{place_step};
 ghost use Rattle.t1s_capture.specs.Captures.{count_octets};
 ghost use Rattle.t1s_capture.specs.Writing.{reading_step, quarter_step, symbol_ends, follows, ticks_begun, nothing_read, reading_end, row_end, sound_step, silent_step, RowFits};
 
+use crate::format::{GAP, TORN};
 use crate::octets::Octets;
 use t1s_grammar::Place;
 use t1s_symbols::{Quarter, Symbol, group_of};
 
-/// Begins a gap.
-const GAP: u8 = 0x20;
-/// Ends the symbols of a torn burst.
-const TORN: u8 = 0x22;
 /// The last part of a symbol.
 const LAST_PART: u8 = 3;
 /// The ticks of a symbol.

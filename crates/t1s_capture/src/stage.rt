@@ -4,15 +4,9 @@ ghost use Rattle.t1s_capture.specs.Captures.{magic};
 ghost use Rattle.t1s_capture.specs.Advance.{count_of, mark, no_burst};
 ghost use Rattle.t1s_capture.specs.Marks.{MarkInRange};
 
+use crate::format::{END, GAP, MAGIC, TORN};
 use t1s_grammar::Place;
 use t1s_symbols::{Symbol, symbol_of};
-
-/// Begins a gap.
-const GAP: u8 = 0x20;
-/// Ends a capture.
-const END: u8 = 0x21;
-/// Ends the symbols of a torn burst.
-const TORN: u8 = 0x22;
 
 /// The octets of a count that were taken, the high one first.
 #[derive(Clone, Copy)]
@@ -106,12 +100,7 @@ pub fn magic_octet(taken: u8) -> u8
     requires { taken < 4 }
     ensures { result ≡ slice_index magic taken }
 {
-    match taken {
-        0 => b'T',
-        1 => b'1',
-        2 => b'S',
-        _ => b'C',
-    }
+    MAGIC[taken as usize]
 }
 
 impl BurstSoFar {

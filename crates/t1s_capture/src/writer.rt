@@ -1,12 +1,10 @@
 //! The writer of captures.
+use crate::format::{END, MAGIC, VERSION};
 use crate::octets::Octets;
 use crate::row::RowSoFar;
 use std::marker::Model;
 use std::mem::replace;
 use t1s_symbols::Heard;
-
-/// Ends a capture.
-const END: u8 = 0x21;
 
 /// Writes what a node hears, tick by tick, as a capture.
 #[derive(Drop)]
@@ -58,11 +56,11 @@ impl CaptureWriter {
         ensures { result ≡ header self.now.node }
     {
         Octets::new()
-            .with(b'T')
-            .with(b'1')
-            .with(b'S')
-            .with(b'C')
-            .with(1)
+            .with(MAGIC[0])
+            .with(MAGIC[1])
+            .with(MAGIC[2])
+            .with(MAGIC[3])
+            .with(VERSION)
             .with(self.node)
     }
 

@@ -6,13 +6,10 @@
 
 use std::alloc::Global;
 use std::env;
-use std::io::{self, BufWriter, ErrorKind, Read, Write};
+use std::io::{self, ErrorKind, Read, Write};
 use std::process::ExitCode;
 use t1s_base::{StdSink, StdSource};
 use t1s_cli::{Status, workbench};
-
-/// How many octets the writer gathers for one call of the system.
-const GATHERED: usize = 65_536;
 
 /// The words behind the program's name. A word that isn't UTF-8 is no word of a command.
 fn words_of(rt: &HostRuntime) -> Result<Vec<String>, Status> {
@@ -32,11 +29,8 @@ fn run<R: Read + Drop, W: Write + Drop>(
     input: R,
     output: W,
 ) -> Status {
-    let Ok(gathered) = BufWriter::with_capacity(alloc, GATHERED, output) else {
-        return Status::Memory;
-    };
     let mut source = StdSource::new(input);
-    let mut sink = StdSink::new(gathered);
+    let mut sink = StdSink::new(output);
     workbench(alloc, words, &mut source, &mut sink)
 }
 

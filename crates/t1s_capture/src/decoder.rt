@@ -114,7 +114,8 @@ impl Decoder {
         self.advance(octet)
     }
 
-    /// Ends the input. It is Ok exactly where the octets that were taken are a capture, with its counts.
+    /// Ends the input. It is Ok exactly where the octets that were taken are a capture, with its counts. Else they are
+    /// refused as `Truncated`, at their number.
     pub fn finish(self) -> Result<Counts, Refusal>
         ensures ok { (octets : List ℕ) (counts : Counts) → Stands octets self →
             (result ≡ Ok counts) ↔ IsCountedCapture octets counts }

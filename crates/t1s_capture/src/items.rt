@@ -17,9 +17,10 @@ pub enum Why {
     Group,
     /// The octet's item or symbol may not stand here.
     Place,
-    /// A burst grows too long.
+    /// A burst grows too long: by the 4097th J of a string of J, by the 3057th nibble of a piece, or by the first H of
+    /// its 4097th piece, with at least two J directly before it.
     BurstLong,
-    /// The octets end before the capture does.
+    /// The octets end before the capture does. It comes at the end of the input alone.
     Truncated,
     /// An octet stands behind the capture's end.
     AfterEnd,

@@ -8,7 +8,8 @@ use std::marker::Model;
 /// The most octets that a writer gives out at once.
 const MOST: usize = 16;
 
-/// At most 16 octets, in fixed room.
+/// What a writer gives out at once: at most 16 octets, in fixed room, in the order in which they stand in the capture.
+/// Making and reading it takes no memory and has no refusals.
 #[derive(Debug, Drop)]
 pub struct Octets {
     held: ArrayVec<u8, MOST>,
@@ -32,7 +33,7 @@ impl Octets {
         }
     }
 
-    /// The octets, at most 16 of them.
+    /// The octets in their order, at most 16 of them.
     pub fn as_slice(&self) -> &[u8]
         ensures octets { result.now ≡ self.now }
         ensures few { length result.now ≤ 16 }

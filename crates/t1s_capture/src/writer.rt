@@ -6,7 +6,8 @@ use std::marker::Model;
 use std::mem::replace;
 use t1s_symbols::Heard;
 
-/// Writes what a node hears, tick by tick, as a capture.
+/// Writes what a node hears, tick by tick, as a capture: the octets of `head`, then those of each tick, then those of
+/// `finish`.
 #[derive(Drop)]
 pub struct CaptureWriter {
     node: u8,
@@ -38,7 +39,7 @@ impl CaptureWriter {
     ghost use Rattle.t1s_capture.specs.Writing.{Writes, row_step, row_end};
     ghost use Rattle.t1s_capture.specs.declared.row.RowSoFar.TheVariants.{Empty};
 
-    /// A writer for this node, which has been handed no tick.
+    /// A writer for this node, whose number is below 16. No tick has been handed in.
     pub fn new(node: u8) -> CaptureWriter
         requires { node < 16 }
         ensures value { result ≡ record { node = node; ticks = 0; row = Empty } }
@@ -64,8 +65,9 @@ impl CaptureWriter {
             .with(self.node)
     }
 
-    /// Takes what the node heard in the next tick, and whether it drove in it. The octets go behind those that were
-    /// given out before.
+    /// Takes what the node heard in the next tick, a nibble below 16 in a part below 4, and whether it drove in it. A
+    /// writer takes at most 2,000,000 ticks. The octets, at most 16, go behind those that were given out before. It
+    /// has no refusals.
     pub fn heard(&mut self, h: Heard, own: bool) -> Octets
         requires heard { IsHeard h }
         requires fewer { self.old.ticks < 2000000 }
@@ -77,8 +79,8 @@ impl CaptureWriter {
         self.go_on(h, own)
     }
 
-    /// The last octets. The header, the octets that were given out for the ticks, and these are the text of the items
-    /// that are cut from the ticks.
+    /// The last octets, `21` behind what the row of the last tick still owes. The header, the octets that were given out
+    /// for the ticks, and these are the text of the items that are cut from the ticks.
     pub fn finish(self) -> Octets
         ensures text { (ticks : List Tick) (given : List ℕ) → Writes ticks given self
             → header self.node ++ (given ++ result) ≡ capture_text self.node (cut ticks) }

@@ -14,8 +14,8 @@ use Rattle.t1s_grammar.specs.Steps.{start_phase, place_step, ends_burst}
 use Rattle.t1s_grammar.specs.declared.place.Phase.{Phase}
 use Rattle.t1s_grammar.specs.declared.place.PlaceFault.{PlaceFault}
 use Rattle.t1s_capture.specs.Captures.{CaptureItem, Gap, Burst, Torn, no_symbols, symbol_count, item_ticks, NeedsBlur, IsItem, is_gap, AlternatesFrom, IsItemList, ticks_of}
-use Rattle.t1s_capture.specs.Cut.{Tick, is_silent, quarter_heard, quarter_of, is_part, symbol_by, on_place, on_symbol, read_on, burst_or_torn, row_items, goes_on, cut_from, cut, AreHeard, CutsAreCaptures}
-use Rattle.t1s_capture.specs.Writing.{reading, row_from, AreSilent, IsRow}
+use Rattle.t1s_capture.specs.Cut.{Tick, is_silent, AreSilent, IsRow, quarter_heard, quarter_of, is_part, symbol_by, on_place, on_symbol, read_on, burst_or_torn, row_items, goes_on, cut_from, cut, AreHeard, CutsAreCaptures}
+use Rattle.t1s_capture.specs.Writing.{reading, row_from}
 use Rattle.t1s_capture.proofs.Growth.{more}
 use Rattle.t1s_capture.proofs.Sound.{is_burst, burst_ends}
 use Rattle.t1s_capture.proofs.Rows.{ReadsTo, row_reads}
@@ -23,14 +23,14 @@ use Rattle.t1s_capture.proofs.Cuts.{goes_apart, row_push}
 
 -- ---- the symbols that are read
 
-quarter_symbol : (h : Heard) (own : Bool) (q : Quarter) → IsHeard h → quarter_heard h own ≡ Some q → IsSymbol q.sym
+pub quarter_symbol : (h : Heard) (own : Bool) (q : Quarter) → IsHeard h → quarter_heard h own ≡ Some q → IsSymbol q.sym
 quarter_symbol Nothing own q r e = cc
 quarter_symbol (One p) true q r e = cc
 quarter_symbol (One p) false q r e =
     let same : p ≡ q = cc in subst (λ (x : Quarter). IsSymbol x.sym) same r.sym
 quarter_symbol Many own q r e = cc
 
-symbol_read : (a b c d : Option Quarter) (s : Symbol) → ((q : Quarter) → a ≡ Some q → IsSymbol q.sym) → symbol_by a b c d ≡ Some s → IsSymbol s
+pub symbol_read : (a b c d : Option Quarter) (s : Symbol) → ((q : Quarter) → a ≡ Some q → IsSymbol q.sym) → symbol_by a b c d ≡ Some s → IsSymbol s
 symbol_read None b c d s h e = cc
 symbol_read (Some q) b c d s h e = by_test ((q.part == 0) && (is_part q.sym 1 b && (is_part q.sym 2 c && is_part q.sym 3 d))) e
   where
@@ -38,7 +38,7 @@ symbol_read (Some q) b c d s h e = by_test ((q.part == 0) && (is_part q.sym 1 b 
     by_test true k = let same : q.sym ≡ s = cc in subst IsSymbol same (h q refl)
     by_test false k = cc
 
-read_begins : (ts : List Tick) (b : Beginning) → IsBeginning b → AreHeard ts → IsBeginning (read_on b ts)
+pub read_begins : (ts : List Tick) (b : Beginning) → IsBeginning b → AreHeard ts → IsBeginning (read_on b ts)
 read_begins [] b h r = h
 read_begins (t ∷ []) b h r = h
 read_begins (t ∷ u ∷ []) b h r = h
@@ -61,7 +61,7 @@ read_begins (t ∷ u ∷ v ∷ w ∷ rest) b h r =
 
 -- ---- the item of a row
 
-nothing_begun : IsBeginning no_symbols
+pub nothing_begun : IsBeginning no_symbols
 nothing_begun = (record { count = omega arith; in_range = λ k d lt. absurd (omega arith) }, omega arith)
 
 no_count : (c : Beginning) → beginning_symbols c ≡ [] → symbol_count c ≡ 0

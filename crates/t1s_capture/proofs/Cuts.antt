@@ -14,8 +14,8 @@ use Rattle.t1s_capture.specs.declared.row.ReadingSoFar.{ReadingSoFar}
 use Rattle.t1s_capture.specs.declared.row.RowSoFar.{RowSoFar}
 use Rattle.t1s_capture.specs.declared.row.RowSoFar.TheVariants.{Empty, Silent, Reading, Torn}
 use Rattle.t1s_capture.specs.Captures.{CaptureItem, Gap, Burst, Torn as TornBurst, no_symbols, symbol_count, symbol_octets, item_octets, count_octets, header, capture_text}
-use Rattle.t1s_capture.specs.Cut.{Tick, is_silent, quarter_of, read_on, burst_or_torn, row_items, goes_on, cut_from, cut}
-use Rattle.t1s_capture.specs.Writing.{Step, reading, ticks_begun, follows, symbol_ends, reading_step, nothing_read, blur_octets, row_end, sound_step, silent_step, row_step, row_from, row_after, AreSilent, IsRow, IsKind, RowIsKind, WriterState, Writes}
+use Rattle.t1s_capture.specs.Cut.{Tick, is_silent, AreSilent, IsRow, quarter_of, read_on, burst_or_torn, row_items, goes_on, cut_from, cut}
+use Rattle.t1s_capture.specs.Writing.{Step, reading, ticks_begun, follows, symbol_ends, reading_step, nothing_read, blur_octets, row_end, sound_step, silent_step, row_step, row_from, row_after, IsKind, RowIsKind, WriterState, Writes}
 use Rattle.t1s_capture.proofs.Rows.{end_octets, ReadsTo, row_reads, silent_from, started, partway, first_tick}
 
 -- ---- the text of a row
@@ -173,7 +173,7 @@ negated_not : (b : Bool) → not b ≡ false → b ≡ true
 negated_not true e = refl
 negated_not false e = cc
 
-goes_same : (x t : Tick) (xs : List Tick) → goes_on (x ∷ xs) t ≡ true → is_silent t ≡ is_silent x
+pub goes_same : (x t : Tick) (xs : List Tick) → goes_on (x ∷ xs) t ≡ true → is_silent t ≡ is_silent x
 goes_same x t xs e = by_kind (is_silent x) e
   where
     by_kind : (b : Bool) → (if b then is_silent t else not (is_silent t)) ≡ true → is_silent t ≡ b

@@ -10,7 +10,7 @@ use Rattle.t1s_grammar.specs.Steps.{place_step, ends_burst}
 use Rattle.t1s_grammar.specs.declared.place.Phase.{Phase}
 use Rattle.t1s_grammar.specs.declared.place.PlaceFault.{PlaceFault}
 use Rattle.t1s_grammar.specs.declared.place.PlaceFault.TheVariants.{NotHere, TooLong as OneTooMany}
-use Rattle.t1s_grammar.proofs.Judged.{taken as place_taken, refused as place_refused}
+use Rattle.t1s_grammar.proofs.Judged.{taken as place_taken}
 use Rattle.t1s_pcs_rx.specs.Views.{View, view_of}
 use Rattle.t1s_capture.specs.declared.items.Why.TheVariants.{Magic as BadMagic, Version as BadVersion, NodeByte, CountZero, GapTwice, Place, BurstLong}
 use Rattle.t1s_capture.specs.declared.stage.CountSoFar.{CountSoFar}

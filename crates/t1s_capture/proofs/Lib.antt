@@ -14,4 +14,5 @@ pub mod Steps
 pub mod Rows
 pub mod Cuts
 pub mod CutItems
+pub mod CutRows
 pub mod Beyond

@@ -12,8 +12,7 @@ use Rattle.t1s_grammar.specs.Burst.{Piece, IsPieceInRange, IsCloser, open_symbol
 use Rattle.t1s_grammar.specs.Prefixes.{Beginning, beginning_symbols, IsBeginning, phase_of, beacon, between, opened, within, ended as ended_piece}
 use Rattle.t1s_grammar.specs.Steps.{place_step, ends_burst}
 use Rattle.t1s_grammar.specs.declared.place.Phase.{Phase}
-use Rattle.t1s_grammar.specs.declared.place.PlaceFault.{PlaceFault}
-use Rattle.t1s_grammar.proofs.Judged.{Judgement, taken, refused, after, after-err, after-beginning}
+use Rattle.t1s_grammar.proofs.Judged.{Judgement, taken, after, after-err, after-beginning}
 use Rattle.t1s_capture.specs.declared.items.Why.{Why}
 use Rattle.t1s_capture.specs.declared.items.Why.TheVariants.{CountZero, GapTwice}
 use Rattle.t1s_capture.specs.declared.stage.CountSoFar.{CountSoFar}

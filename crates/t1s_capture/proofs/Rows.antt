@@ -15,8 +15,8 @@ use Rattle.t1s_capture.specs.declared.row.RowSoFar.{RowSoFar}
 use Rattle.t1s_capture.specs.declared.row.RowSoFar.TheVariants.{Silent, Torn}
 use Rattle.t1s_capture.specs.Captures.{symbol_count, symbol_octets}
 use Rattle.t1s_capture.specs.Growing.{grown}
-use Rattle.t1s_capture.specs.Cut.{Tick, is_silent, quarter_of, is_part, symbol_by, on_place, on_symbol, read_on}
-use Rattle.t1s_capture.specs.Writing.{Step, reading, symbol_ends, reading_step, blur_octets, row_end, sound_step, silent_step, row_step, row_from, AreSilent}
+use Rattle.t1s_capture.specs.Cut.{Tick, is_silent, AreSilent, quarter_of, is_part, symbol_by, on_place, on_symbol, read_on}
+use Rattle.t1s_capture.specs.Writing.{Step, reading, symbol_ends, reading_step, blur_octets, row_end, sound_step, silent_step, row_step, row_from}
 use Rattle.t1s_capture.proofs.Growth.{more}
 
 -- ---- silent rows

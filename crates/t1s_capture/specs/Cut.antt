@@ -26,6 +26,16 @@ nothing_heard Many = false
 abbrev pub is_silent : Tick → Bool
 is_silent tick = nothing_heard tick.0
 
+-- these ticks are all silent, or all not
+abbrev pub AreSilent : Bool → List Tick → Type 0
+AreSilent silent [] = Unit {0}
+AreSilent silent (t ∷ ts) = (is_silent t ≡ silent) × AreSilent silent ts
+
+-- a row: its ticks are all silent or all not
+abbrev pub IsRow : List Tick → Type 0
+IsRow [] = Unit {0}
+IsRow (t ∷ ts) = AreSilent (is_silent t) ts
+
 -- the quarter that is heard in a tick. What is heard while the node drives counts as more than one signal
 abbrev pub quarter_heard : Heard → Bool → Option Quarter
 quarter_heard (One q) false = Some q

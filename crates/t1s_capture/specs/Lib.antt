@@ -12,4 +12,5 @@ pub mod Marks
 pub mod Kept
 pub mod Growing
 pub mod Cut
+pub mod CutRows
 pub mod Writing

@@ -11,7 +11,7 @@ use Rattle.t1s_capture.specs.declared.row.ReadingSoFar.{ReadingSoFar}
 use Rattle.t1s_capture.specs.declared.row.RowSoFar.{RowSoFar}
 use Rattle.t1s_capture.specs.declared.row.RowSoFar.TheVariants.{Empty, Silent, Reading, Torn}
 use Rattle.t1s_capture.specs.Captures.{CaptureItem, count_octets, item_octets}
-use Rattle.t1s_capture.specs.Cut.{Tick, is_silent, quarter_of, cut, cut_from}
+use Rattle.t1s_capture.specs.Cut.{Tick, is_silent, IsRow, quarter_of, cut, cut_from}
 
 -- a row, and the octets that are given out
 abbrev pub Step : Type 0
@@ -104,15 +104,6 @@ row_from step (t ∷ ts) = row_from ((row_step step.0 t).0, step.1 ++ (row_step 
 
 abbrev pub row_after : List Tick → Step
 row_after ticks = row_from (Empty, []) ticks
-
--- these ticks are all silent, or all not
-abbrev pub AreSilent : Bool → List Tick → Type 0
-AreSilent silent [] = Unit {0}
-AreSilent silent (t ∷ ts) = (is_silent t ≡ silent) × AreSilent silent ts
-
-abbrev pub IsRow : List Tick → Type 0
-IsRow [] = Unit {0}
-IsRow (t ∷ ts) = AreSilent (is_silent t) ts
 
 -- a row that is kept as silent, or as not
 abbrev pub IsKind : Bool → RowSoFar → Type 0

@@ -9,7 +9,8 @@
 //!
 //! [`CaptureWriter`] writes a capture: the octets that it gives out are together the text of the items that `cut` in
 //! `specs/Cut.antt` cuts from the ticks that were handed in. What it keeps and what it stands for is in
-//! `specs/Writing.antt`. That octets have one reading, and that no capture begins another, are laws, in the module `laws`.
+//! `specs/Writing.antt`. That octets have one reading, that no capture begins another, and what is cut from ticks, in
+//! the words of the grammar (`specs/CutRows.antt`), are laws, in the module `laws`.
 #![tactic(auto)]
 
 mod decoder;

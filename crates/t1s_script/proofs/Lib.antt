@@ -1,6 +1,7 @@
 pub mod Cuts
 pub mod Ranges
 pub mod Nodes
+pub mod Drafts
 pub mod Validity
 pub mod Premises
 pub mod ThinScripts

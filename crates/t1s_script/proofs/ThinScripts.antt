@@ -1,5 +1,5 @@
 -- Octets of the thin form are read, and all that they don't name has its default.
-use Rattle.std.proofs.Common.{◌≡◌, ℕ, zero, suc, ◌+◌, ◌<◌, ◌≤◌, Bool, true, false, cond, leb, ltb, List, [], ◌∷◌, length, get_or, map, set, Option, Some, None, Result, Ok, Err, refl, ◌∙◌, ap, subst, arith, unwrap_or, replicate, All}
+use Rattle.std.proofs.Common.{◌≡◌, ℕ, zero, suc, ◌+◌, ◌<◌, ◌≤◌, Bool, true, false, cond, leb, ltb, List, [], ◌∷◌, length, get_or, map, set, Option, Some, None, Result, Ok, Err, refl, sym, ◌∙◌, ap, subst, arith, unwrap_or, All}
 use Rattle.std.specs.Prelude.{◌&&◌, is_some, codes}
 use Rattle.std.specs.Str.{bytes_eq}
 use Rattle.std.specs.List.{list_any}
@@ -7,10 +7,9 @@ use Rattle.std.proofs.Math.ListN.{length-set}
 use Rattle.std.proofs.lemmas.Bool.Decides.{nat_tests}
 use Rattle.std.proofs.lemmas.List.Elements.{All-cons, All-nil}
 use Rattle.t1s_script.specs.Lines.{lines_of}
-use Rattle.t1s_script.specs.Settings.{value_in}
 use Rattle.t1s_script.specs.Saying.{Said, said}
-use Rattle.t1s_script.specs.Draft.{draft_start, with_slot, said_after, draft_after, node_of, nodes_from, script_with}
-use Rattle.t1s_script.specs.Reading.{reading_from, script_in, refused_at}
+use Rattle.t1s_script.specs.Draft.{value_in, draft_start, with_slot, said_after, draft_after, node_of, nodes_from, script_with}
+use Rattle.t1s_script.specs.Reading.{script_after_first, script_in, refused_at}
 use Rattle.t1s_script.specs.ThinForm.{are_thin_nodes, are_thin_after_count, are_thin, have_thin_form, IsThinNode, IsThinScript, ThinScriptsHaveDefaults}
 use Rattle.t1s_script.specs.declared.draft.Draft.{Draft}
 use Rattle.t1s_script.specs.declared.draft.Slot.{Slot}
@@ -21,6 +20,7 @@ use Rattle.t1s_script.specs.declared.words.Setting.TheVariants.{Count, To, Rise,
 use Rattle.t1s_script.specs.declared.words.ScriptLine.{ScriptLine}
 use Rattle.t1s_script.specs.declared.words.ScriptLine.TheVariants.{Skipped, Set, Seed, Node, Late, End}
 use Rattle.t1s_script.proofs.Ranges.{InRange, said_range}
+use Rattle.t1s_script.proofs.Drafts.{reading_from, by_drafts, any_set, none_free}
 
 -- what reading gives is a thin script
 abbrev Reads : Result Script ScriptRefusal → Type 0
@@ -63,12 +63,6 @@ script_thin least d last h =
     }
 
 -- ---- one more node
-
-any_set : (slots : List (Option Slot)) (k : ℕ) (new : Slot) → k < length slots → list_any is_some (set slots k (Some new)) ≡ true
-any_set [] k new below = absurd (omega arith)
-any_set (o ∷ os) zero new below = refl
-any_set (None ∷ os) (suc k) new below = any_set os k new (omega arith)
-any_set (Some s ∷ os) (suc k) new below = refl
 
 free_set : (slots : List (Option Slot)) (k : ℕ) (new : Slot) (i : ℕ) → k < i → get_or slots i None ≡ None → get_or (set slots k (Some new)) i None ≡ None
 free_set [] k new i above e = e
@@ -163,11 +157,6 @@ after_count_read number d (line ∷ lines) h thin = go (said line) (said_range l
         node_read number 0 n id place d (map said lines) h (omega arith)
         (nodes_read (number + 1) (n + 1) (with_slot d n (slot_of id place)) lines (node_thin 0 n id place d h (omega arith)) (any_set d.slots n (slot_of id place) (omega (arith, h.size))) thin)
 
-none_free : (k i : ℕ) → get_or {A = Option Slot} (replicate k None) i None ≡ None
-none_free zero i = refl
-none_free (suc k) zero = refl
-none_free (suc k) (suc i) = none_free k i
-
 -- after the line `count N`
 abbrev counted : ℕ → Draft
 counted n = record draft_start { settings = record { count = Some n; to = None; rise = None; fall = None; burst = None; room = None } }
@@ -209,7 +198,7 @@ all_read [] thin = cc
 all_read (first ∷ lines) thin =
     let parts = both (bytes_eq first (codes "t1s 1")) (are_thin (map said lines)) thin in
     let read = lines_read lines parts.1 in
-    (read.0, ap (λ b. cond b (reading_from 1 (Ok draft_start) (map said lines)) (refused_at 1 FirstLine)) parts.0 ∙ read.1, read.2)
+    (read.0, ap (λ b. cond b (script_after_first (map said lines)) (refused_at 1 FirstLine)) parts.0 ∙ sym (by_drafts lines) ∙ read.1, read.2)
 
 pub thin_scripts : ThinScriptsHaveDefaults
 thin_scripts octets thin =

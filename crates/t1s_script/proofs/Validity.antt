@@ -5,11 +5,11 @@ use Rattle.std.specs.Str.{bytes_eq}
 use Rattle.std.specs.List.{list_any}
 use Rattle.std.proofs.Math.ListN.{length-set}
 use Rattle.t1s_script.specs.Lines.{lines_of}
-use Rattle.t1s_script.specs.Settings.{lowest, highest, default_of, given, with_given, value_in}
+use Rattle.t1s_script.specs.Settings.{lowest, highest, default_of}
 use Rattle.t1s_script.specs.Saying.{Said, said}
-use Rattle.t1s_script.specs.Draft.{draft_start, slot_at, with_slot, set_after, seed_after, node_after, late_in_slot, late_after, end_after, line_after, said_after, draft_after, script_with}
+use Rattle.t1s_script.specs.Draft.{given, with_given, value_in, draft_start, slot_at, with_slot, set_after, seed_after, node_after, late_in_slot, late_after, end_after, line_after, said_after, draft_after, script_with, script_at}
 use Rattle.t1s_script.specs.Script.{IsScript}
-use Rattle.t1s_script.specs.Reading.{reading_from, script_at, script_in, script_of, refused_at, IsAnswer, ReadScriptsAreValid}
+use Rattle.t1s_script.specs.Reading.{script_after_first, script_in, script_of, refused_at, IsAnswer, ReadScriptsAreValid}
 use Rattle.t1s_script.specs.declared.refusals.ScriptFault.{ScriptFault}
 use Rattle.t1s_script.specs.declared.refusals.ScriptFault.TheVariants.{Refused, Memory}
 use Rattle.t1s_script.specs.declared.draft.Draft.{Draft}
@@ -23,6 +23,7 @@ use Rattle.t1s_script.specs.declared.words.Setting.TheVariants.{Count, To, Rise,
 use Rattle.t1s_script.specs.declared.words.ScriptLine.{ScriptLine}
 use Rattle.t1s_script.specs.declared.words.ScriptLine.TheVariants.{Skipped, Set, Seed, Node, Late, End}
 use Rattle.t1s_script.proofs.Ranges.{InRange, said_range}
+use Rattle.t1s_script.proofs.Drafts.{reading_from, by_drafts}
 use Rattle.t1s_script.proofs.Nodes.{IsSlot, AreSlots, nodes_range, length-nodes_from, some_node, nodes_increase}
 
 -- the number of a setting is in its range, where one is given
@@ -227,8 +228,8 @@ lines_valid : (lines : List (List ℕ)) (s : Script) → script_in lines ≡ Ok 
 lines_valid [] s is = cc
 lines_valid (first ∷ lines) s is = go (bytes_eq first (codes "t1s 1")) is
   where
-    go : (b : Bool) → cond b (reading_from 1 (Ok draft_start) (map said lines)) (refused_at 1 FirstLine) ≡ Ok s → IsScript s
-    go true is = reading_valid 1 (Ok draft_start) lines s (λ d same. (let here : draft_start ≡ d = cc in subst IsDraft here start_valid)) is
+    go : (b : Bool) → cond b (script_after_first (map said lines)) (refused_at 1 FirstLine) ≡ Ok s → IsScript s
+    go true is = reading_valid 1 (Ok draft_start) lines s (λ d same. (let here : draft_start ≡ d = cc in subst IsDraft here start_valid)) (by_drafts lines ∙ is)
     go false is = cc
 
 pub read_valid : ReadScriptsAreValid

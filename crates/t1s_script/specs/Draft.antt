@@ -1,19 +1,52 @@
--- What the lines so far say, and what one more line adds to it. The reasons here are those for which a line
--- is refused because of the lines before it.
+-- What the code keeps of the lines that it has read, and how it takes one more line. What a script is doesn't rest
+-- on it: that stands in Reading, and proofs/Drafts shows that both agree.
 use Rattle.std.specs.Prelude.{ℕ, ◌+◌, List, [], ◌∷◌, replicate, get_or, slice_set, is_some, unwrap_or, Option, Some, None, Result, Ok, Err, if◌then◌else◌}
 use Rattle.std.specs.List.{list_any}
-use Rattle.t1s_script.specs.Settings.{no_settings, given, with_given, value_in}
+use Rattle.t1s_script.specs.Settings.{default_of}
 use Rattle.t1s_script.specs.Saying.{Said}
+use Rattle.t1s_script.specs.Reading.{refused_at}
 use Rattle.t1s_script.specs.declared.draft.Draft.{Draft}
+use Rattle.t1s_script.specs.declared.draft.Settings.{Settings}
 use Rattle.t1s_script.specs.declared.draft.Slot.{Slot}
 use Rattle.t1s_script.specs.declared.refusals.ScriptReason.{ScriptReason}
-use Rattle.t1s_script.specs.declared.refusals.ScriptReason.TheVariants.{AfterEnd, Twice, UnknownNode, NoNode}
+use Rattle.t1s_script.specs.declared.refusals.ScriptReason.TheVariants.{AfterEnd, Twice, UnknownNode, NoNode, NoEnd}
+use Rattle.t1s_script.specs.declared.refusals.ScriptRefusal.{ScriptRefusal}
 use Rattle.t1s_script.specs.declared.script.NodeLine.{NodeLine}
 use Rattle.t1s_script.specs.declared.script.Script.{Script}
 use Rattle.t1s_script.specs.declared.words.Setting.{Setting}
 use Rattle.t1s_script.specs.declared.words.Setting.TheVariants.{Count, To, Rise, Fall, Burst, Room}
 use Rattle.t1s_script.specs.declared.words.ScriptLine.{ScriptLine}
 use Rattle.t1s_script.specs.declared.words.ScriptLine.TheVariants.{Skipped, Set, Seed, Node, Late, End}
+
+-- ---- the settings
+
+-- no line has given any
+abbrev pub no_settings : Settings
+no_settings = record { count = None; to = None; rise = None; fall = None; burst = None; room = None }
+
+-- the number that a line gave, if one did
+abbrev pub given : Settings → Setting → Option ℕ
+given s Count = s.count
+given s To = s.to
+given s Rise = s.rise
+given s Fall = s.fall
+given s Burst = s.burst
+given s Room = s.room
+
+-- one more number is given
+abbrev pub with_given : Settings → Setting → ℕ → Settings
+with_given s Count n = record s { count = Some n }
+with_given s To n = record s { to = Some n }
+with_given s Rise n = record s { rise = Some n }
+with_given s Fall n = record s { fall = Some n }
+with_given s Burst n = record s { burst = Some n }
+with_given s Room n = record s { room = Some n }
+
+-- the number that holds: the given one, or the default
+abbrev pub value_in : Settings → Setting → ℕ
+value_in s w = unwrap_or (given s w) (default_of w)
+
+-- ---- the draft
 
 -- no line stood yet: there is a free slot for each of the node numbers 0 to 15
 abbrev pub draft_start : Draft
@@ -94,3 +127,8 @@ script_with d last = record {
   nodes = nodes_from (value_in d.settings To) 0 d.slots;
   end = last;
 }
+
+-- all lines were taken; the number is that of the line after them
+abbrev pub script_at : ℕ → Draft → Option ℕ → Result Script ScriptRefusal
+script_at number d (Some last) = Ok (script_with d last)
+script_at number d None = refused_at number NoEnd

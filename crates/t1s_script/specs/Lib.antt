@@ -1,9 +1,11 @@
 pub mod Lines
 pub mod Settings
 pub mod Saying
+pub mod Values
+pub mod Rules
 pub mod Ranges
-pub mod Draft
 pub mod Script
 pub mod Reading
+pub mod Draft
 pub mod ThinForm
 pub mod Fit

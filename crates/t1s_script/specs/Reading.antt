@@ -1,37 +1,89 @@
--- How a script is read: line by line, each in the light of those before it.
-use Rattle.std.specs.Prelude.{ℕ, ◌+◌, List, [], ◌∷◌, length, map, nat_lt, codes, Option, Some, None, Result, Ok, Err, ⊤, ◌≡◌, if◌then◌else◌}
+-- What the octets of a script give, said over the list of all its lines: the script, or the first line that
+-- breaks a rule and the first reason of the table for it.
+use Rattle.std.specs.Prelude.{ℕ, ◌+◌, List, [], ◌∷◌, length, map, take, flat_map, filter_map, nat_lt, codes, Option, option_map, Result, Ok, Err, ⊤, ◌≡◌, if◌then◌else◌}
+use Rattle.std.specs.List.{enumerate_from, range_with_len}
 use Rattle.std.specs.Str.{bytes_eq}
 use Rattle.t1s_script.specs.Lines.{lines_of}
 use Rattle.t1s_script.specs.Saying.{Said, said}
-use Rattle.t1s_script.specs.Draft.{draft_start, draft_after, script_with}
+use Rattle.t1s_script.specs.Values.{seed_from, node_for, start_for, end_from, first_given, setting_of}
+use Rattle.t1s_script.specs.Rules.{reason_of}
 use Rattle.t1s_script.specs.Script.{IsScript}
-use Rattle.t1s_script.specs.declared.draft.Draft.{Draft}
 use Rattle.t1s_script.specs.declared.refusals.ScriptReason.{ScriptReason}
 use Rattle.t1s_script.specs.declared.refusals.ScriptReason.TheVariants.{TooLong, FirstLine, NoEnd}
 use Rattle.t1s_script.specs.declared.refusals.ScriptRefusal.{ScriptRefusal}
 use Rattle.t1s_script.specs.declared.refusals.ScriptFault.{ScriptFault}
 use Rattle.t1s_script.specs.declared.refusals.ScriptFault.TheVariants.{Refused, Memory}
+use Rattle.t1s_script.specs.declared.script.NodeLine.{NodeLine}
 use Rattle.t1s_script.specs.declared.script.Script.{Script}
+use Rattle.t1s_script.specs.declared.words.Setting.TheVariants.{Count, To, Rise, Fall, Burst, Room}
+
+-- ---- the script of lines that break no rule
+
+-- the node of that number, as its `node` line names it: its timer is that of the script, and without a `late`
+-- line it starts at tick 0
+abbrev pub node_of_line : List Said → ℕ → ℕ × ℕ → NodeLine
+node_of_line lines number line = record {
+  no = number;
+  id = line.0;
+  place = line.1;
+  to = setting_of To lines;
+  start = first_given (start_for number) lines 0;
+}
+
+-- the node of that number, if it has a `node` line
+abbrev pub nodes_of_number : List Said → ℕ → List NodeLine
+nodes_of_number lines number = map (node_of_line lines number) (filter_map (node_for number) lines)
+
+-- the nodes in ascending number, 0 to 15
+abbrev pub nodes_of : List Said → List NodeLine
+nodes_of lines = flat_map (nodes_of_number lines) (range_with_len 0 16)
+
+-- the script that these lines give, with that `end`
+abbrev pub script_from : List Said → ℕ → Script
+script_from lines last = record {
+  count = setting_of Count lines;
+  to = setting_of To lines;
+  rise = setting_of Rise lines;
+  fall = setting_of Fall lines;
+  burst = setting_of Burst lines;
+  room = setting_of Room lines;
+  seed = first_given seed_from lines 1;
+  nodes = nodes_of lines;
+  end = last;
+}
 
 abbrev pub refused_at : ℕ → ScriptReason → Result Script ScriptRefusal
 refused_at number reason = Err (record { line = number; reason = reason })
 
--- all lines were taken; the number is that of the line after them
-abbrev pub script_at : ℕ → Draft → Option ℕ → Result Script ScriptRefusal
-script_at number d (Some last) = Ok (script_with d last)
-script_at number d None = refused_at number NoEnd
+-- by the `end` lines: without one the refused line is the one after all lines
+abbrev pub script_by : List Said → List ℕ → Result Script ScriptRefusal
+script_by lines [] = refused_at (length lines + 2) NoEnd
+script_by lines (last ∷ further) = Ok (script_from lines last)
 
--- the lines after those that gave a draft or a reason; `number` lines were taken
-abbrev pub reading_from : ℕ → Result Draft ScriptReason → List Said → Result Script ScriptRefusal
-reading_from number (Err reason) lines = refused_at number reason
-reading_from number (Ok d) [] = script_at (number + 1) d d.end
-reading_from number (Ok d) (line ∷ lines) = reading_from (number + 1) (draft_after d line) lines
+-- ---- the refused line
 
--- all lines
+-- the refusal of a line, if it breaks a rule; it comes with the number of lines between it and the first line
+abbrev pub refusal_of : List Said → ℕ × Said → Option ScriptRefusal
+refusal_of lines line = option_map (λ reason. record { line = line.0 + 2; reason = reason }) (reason_of (take line.0 lines) line.1)
+
+-- the refusals of all lines after the first that break a rule
+abbrev pub refusals_of : List Said → List ScriptRefusal
+refusals_of lines = filter_map (refusal_of lines) (enumerate_from 0 lines)
+
+-- the first refusal, and where there is none the other answer
+abbrev pub first_refusal_or : List ScriptRefusal → Result Script ScriptRefusal → Result Script ScriptRefusal
+first_refusal_or [] answer = answer
+first_refusal_or (refusal ∷ further) answer = Err refusal
+
+-- ---- all lines
+
+-- the lines after the first
+abbrev pub script_after_first : List Said → Result Script ScriptRefusal
+script_after_first lines = first_refusal_or (refusals_of lines) (script_by lines (filter_map end_from lines))
+
 abbrev pub script_in : List (List ℕ) → Result Script ScriptRefusal
 script_in [] = refused_at 1 FirstLine
-script_in (first ∷ lines) =
-    if bytes_eq first (codes "t1s 1") then reading_from 1 (Ok draft_start) (map said lines) else refused_at 1 FirstLine
+script_in (first ∷ lines) = if bytes_eq first (codes "t1s 1") then script_after_first (map said lines) else refused_at 1 FirstLine
 
 -- what the octets of a script give: the script, or the refused line and the reason
 abbrev pub script_of : List ℕ → Result Script ScriptRefusal

@@ -1,8 +1,7 @@
 -- The numbers that hold for a whole script: their ranges and defaults.
-use Rattle.std.specs.Prelude.{ℕ, Option, Some, None, unwrap_or}
+use Rattle.std.specs.Prelude.{ℕ}
 use Rattle.t1s_script.specs.declared.words.Setting.{Setting}
 use Rattle.t1s_script.specs.declared.words.Setting.TheVariants.{Count, To, Rise, Fall, Burst, Room}
-use Rattle.t1s_script.specs.declared.draft.Settings.{Settings}
 
 -- the least number that a setting takes
 abbrev pub lowest : Setting → ℕ
@@ -30,29 +29,3 @@ default_of Rise = 4
 default_of Fall = 4
 default_of Burst = 0
 default_of Room = 8
-
--- no line has given any
-abbrev pub no_settings : Settings
-no_settings = record { count = None; to = None; rise = None; fall = None; burst = None; room = None }
-
--- the number that a line gave, if one did
-abbrev pub given : Settings → Setting → Option ℕ
-given s Count = s.count
-given s To = s.to
-given s Rise = s.rise
-given s Fall = s.fall
-given s Burst = s.burst
-given s Room = s.room
-
--- one more number is given
-abbrev pub with_given : Settings → Setting → ℕ → Settings
-with_given s Count n = record s { count = Some n }
-with_given s To n = record s { to = Some n }
-with_given s Rise n = record s { rise = Some n }
-with_given s Fall n = record s { fall = Some n }
-with_given s Burst n = record s { burst = Some n }
-with_given s Room n = record s { room = Some n }
-
--- the number that holds: the given one, or the default
-abbrev pub value_in : Settings → Setting → ℕ
-value_in s w = unwrap_or (given s w) (default_of w)

@@ -2,8 +2,7 @@
 ghost use Rattle.std.specs.Prelude.{◌≡◌, ◌≤◌, Ok, Err, IfOk, MatchResult, is_some};
 ghost use Rattle.std.specs.List.{list_any};
 ghost use Rattle.std.specs.Result.{ForOk};
-ghost use Rattle.t1s_script.specs.Settings.{given, no_settings, value_in, with_given};
-ghost use Rattle.t1s_script.specs.Draft.{draft_after, draft_start, end_after, late_after, line_after, node_after, nodes_from, script_with, seed_after, set_after, slot_at, with_slot};
+ghost use Rattle.t1s_script.specs.Draft.{draft_after, draft_start, end_after, given, late_after, line_after, no_settings, node_after, nodes_from, script_with, seed_after, set_after, slot_at, value_in, with_given, with_slot};
 ghost use Rattle.t1s_script.specs.Ranges.{HasSlot};
 
 use crate::refusals::ScriptReason;

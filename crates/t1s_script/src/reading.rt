@@ -2,8 +2,8 @@
 ghost use Rattle.std.specs.Prelude.{◌≡◌, ◌+◌, ◌≤◌, IfOk, Ok, map};
 ghost use Rattle.t1s_script.specs.Lines.{lines_of};
 ghost use Rattle.t1s_script.specs.Saying.{said};
-ghost use Rattle.t1s_script.specs.Draft.{draft_start};
-ghost use Rattle.t1s_script.specs.Reading.{IsAnswer, reading_from, script_at, script_of};
+ghost use Rattle.t1s_script.specs.Draft.{script_at};
+ghost use Rattle.t1s_script.specs.Reading.{IsAnswer, script_after_first, script_of};
 ghost use Rattle.t1s_script.specs.Script.{IsScript};
 
 use crate::draft::Draft;
@@ -35,7 +35,8 @@ fn finished(alloc: Global, number: u32, draft: &Draft) -> Result<Script, ScriptF
 
 /// Reads the lines after the first.
 fn read_lines(alloc: Global, mut lines: Lines<'_>) -> Result<Script, ScriptFault>
-    ensures { IsAnswer (reading_from lines.entry.taken (Ok draft_start) (map said (lines_of lines.entry.rest.now))) result }
+    requires { lines.taken ≡ 1 }
+    ensures { IsAnswer (script_after_first (map said (lines_of lines.entry.rest.now))) result }
 {
     let mut draft = Draft::start();
     while let Some(line) = lines.next() {

@@ -1,0 +1,50 @@
+-- The rules that a line after the first breaks in the light of all lines before it, in the order of the table of
+-- reasons. A line is refused for the first reason of the table.
+use Rattle.std.specs.Prelude.{Bool, false, not, List, Option, Some, None, Ok, Err, if◌then◌else◌}
+use Rattle.std.specs.List.{list_any}
+use Rattle.t1s_script.specs.Saying.{Said}
+use Rattle.t1s_script.specs.Values.{number_for, seed_from, node_for, start_for, end_from, is_node, some_gives}
+use Rattle.t1s_script.specs.declared.refusals.ScriptReason.{ScriptReason}
+use Rattle.t1s_script.specs.declared.refusals.ScriptReason.TheVariants.{AfterEnd, Twice, UnknownNode, NoNode}
+use Rattle.t1s_script.specs.declared.words.ScriptLine.{ScriptLine}
+use Rattle.t1s_script.specs.declared.words.ScriptLine.TheVariants.{Skipped, Set, Seed, Node, Late, End}
+
+-- `AfterEnd`: a line that isn't skipped stands after `end`
+abbrev pub stands_after_end : List Said → Said → Bool
+stands_after_end earlier (Ok Skipped) = false
+stands_after_end earlier line = some_gives end_from earlier
+
+-- `Twice`: a line that may stand once stands again
+abbrev pub stands_again : List Said → ScriptLine → Bool
+stands_again earlier (Set w n) = some_gives (number_for w) earlier
+stands_again earlier (Seed n) = some_gives seed_from earlier
+stands_again earlier (Node number id place) = some_gives (node_for number) earlier
+stands_again earlier (Late number start) = some_gives (start_for number) earlier
+stands_again earlier _ = false
+
+-- `UnknownNode`: a line names a node that has no earlier `node` line
+abbrev pub names_unknown_node : List Said → ScriptLine → Bool
+names_unknown_node earlier (Late number start) = not (some_gives (node_for number) earlier)
+names_unknown_node earlier _ = false
+
+-- `NoNode`: `end` comes and no `node` line stood before
+abbrev pub ends_without_node : List Said → ScriptLine → Bool
+ends_without_node earlier (End last) = not (list_any is_node earlier)
+ends_without_node earlier _ = false
+
+-- the first reason for a line that says something by itself
+abbrev pub reason_beside : List Said → ScriptLine → Option ScriptReason
+reason_beside earlier line =
+    if stands_again earlier line then Some Twice
+    else if names_unknown_node earlier line then Some UnknownNode
+    else if ends_without_node earlier line then Some NoNode
+    else None
+
+-- the line's own reason comes before those that earlier lines give
+abbrev pub own_reason_first : List Said → Said → Option ScriptReason
+own_reason_first earlier (Err reason) = Some reason
+own_reason_first earlier (Ok line) = reason_beside earlier line
+
+-- the first reason for any line
+abbrev pub reason_of : List Said → Said → Option ScriptReason
+reason_of earlier line = if stands_after_end earlier line then Some AfterEnd else own_reason_first earlier line

@@ -1,11 +1,12 @@
 -- The numbers that a line gives lie in their ranges.
-use Rattle.std.proofs.Common.{◌≡◌, ℕ, ◌≤◌, Bool, true, false, cond, leb, List, [], ◌∷◌, Option, Some, None, Ok, Err, refl, subst, arith}
+use Rattle.std.proofs.Common.{◌≡◌, ℕ, ◌≤◌, Bool, true, false, cond, leb, List, [], ◌∷◌, Option, Some, None, Result, Ok, Err, refl, subst, arith}
 use Rattle.std.specs.Prelude.{◌&&◌}
 use Rattle.std.proofs.lemmas.Bool.Decides.{nat_tests}
 use Rattle.t1s_base.specs.Numbers.{number_of}
 use Rattle.t1s_script.specs.Lines.{fields_of}
 use Rattle.t1s_script.specs.Settings.{lowest, highest}
-use Rattle.t1s_script.specs.Saying.{word_of, set_said, seed_said, node_said, late_said, end_said, said_by, said_in, is_skipped, said}
+use Rattle.t1s_script.specs.Saying.{Said, word_of, sole_number, said_with, set_said, seed_said, node_said, late_said, end_said, said_by, said_in, is_skipped, said}
+use Rattle.t1s_script.specs.declared.refusals.ScriptReason.{ScriptReason}
 use Rattle.t1s_script.specs.declared.refusals.ScriptReason.TheVariants.{OutOfRange}
 use Rattle.t1s_script.specs.declared.words.Setting.{Setting}
 use Rattle.t1s_script.specs.declared.words.Word.{Word}
@@ -50,14 +51,14 @@ end_range : (o : Option ℕ) (l : ScriptLine) → end_said o ≡ Ok l → InRang
 end_range (Some n) l e = passes (leb 1 n && leb n 2000000) (End n) l (λ h. grind (arith, nat_tests)) e
 end_range None l e = cc
 
+one_range : (says : Option ℕ → Said) → ((o : Option ℕ) (l : ScriptLine) → says o ≡ Ok l → InRange l) → (r : Result (Option ℕ) ScriptReason) (l : ScriptLine) → said_with says r ≡ Ok l → InRange l
+one_range says range (Ok number) l e = range number l e
+one_range says range (Err reason) l e = cc
+
 said_by_range : (w : Option Word) (fields : List (List ℕ)) (l : ScriptLine) → said_by w fields ≡ Ok l → InRange l
 said_by_range None fields l e = cc
-said_by_range (Some (SetWord w)) [] l e = cc
-said_by_range (Some (SetWord w)) (f ∷ []) l e = set_range w (number_of f) l e
-said_by_range (Some (SetWord w)) (f ∷ g ∷ fs) l e = cc
-said_by_range (Some SeedWord) [] l e = cc
-said_by_range (Some SeedWord) (f ∷ []) l e = seed_range (number_of f) l e
-said_by_range (Some SeedWord) (f ∷ g ∷ fs) l e = cc
+said_by_range (Some (SetWord w)) fields l e = one_range (set_said w) (set_range w) (sole_number fields) l e
+said_by_range (Some SeedWord) fields l e = one_range seed_said seed_range (sole_number fields) l e
 said_by_range (Some NodeWord) [] l e = cc
 said_by_range (Some NodeWord) (f ∷ []) l e = cc
 said_by_range (Some NodeWord) (f ∷ g ∷ []) l e = cc
@@ -67,9 +68,7 @@ said_by_range (Some LateWord) [] l e = cc
 said_by_range (Some LateWord) (f ∷ []) l e = cc
 said_by_range (Some LateWord) (f ∷ g ∷ []) l e = late_range (number_of f) (number_of g) l e
 said_by_range (Some LateWord) (f ∷ g ∷ h ∷ fs) l e = cc
-said_by_range (Some EndWord) [] l e = cc
-said_by_range (Some EndWord) (f ∷ []) l e = end_range (number_of f) l e
-said_by_range (Some EndWord) (f ∷ g ∷ fs) l e = cc
+said_by_range (Some EndWord) fields l e = one_range end_said end_range (sole_number fields) l e
 
 said_in_range : (fields : List (List ℕ)) (l : ScriptLine) → said_in fields ≡ Ok l → InRange l
 said_in_range [] l e = cc

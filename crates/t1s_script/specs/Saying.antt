@@ -61,13 +61,21 @@ end_said None = Err Number
 
 -- ---- the fields of a line: as many as the word takes
 
+-- the number of the only field; it is None where that field isn't a number
+abbrev pub sole_number : List (List ℕ) → Result (Option ℕ) ScriptReason
+sole_number (field ∷ []) = Ok (number_of field)
+sole_number _ = Err Form
+
+-- what a line with one number says
+abbrev pub said_with : (Option ℕ → Said) → Result (Option ℕ) ScriptReason → Said
+said_with says (Ok number) = says number
+said_with says (Err reason) = Err reason
+
 abbrev pub set_in : Setting → List (List ℕ) → Said
-set_in w (n ∷ []) = set_said w (number_of n)
-set_in w _ = Err Form
+set_in w fields = said_with (set_said w) (sole_number fields)
 
 abbrev pub seed_in : List (List ℕ) → Said
-seed_in (n ∷ []) = seed_said (number_of n)
-seed_in _ = Err Form
+seed_in fields = said_with seed_said (sole_number fields)
 
 abbrev pub node_in : List (List ℕ) → Said
 node_in (number ∷ id ∷ place ∷ []) = node_said (number_of number) (number_of id) (number_of place)
@@ -78,8 +86,7 @@ late_in (number ∷ start ∷ []) = late_said (number_of number) (number_of star
 late_in _ = Err Form
 
 abbrev pub end_in : List (List ℕ) → Said
-end_in (last ∷ []) = end_said (number_of last)
-end_in _ = Err Form
+end_in fields = said_with end_said (sole_number fields)
 
 -- what the fields after the word say
 abbrev pub said_by : Option Word → List (List ℕ) → Said

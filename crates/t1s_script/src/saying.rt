@@ -1,7 +1,7 @@
 // What one line says, by itself.
 ghost use Rattle.std.specs.Prelude.{◌≡◌, ◌≤◌, IfOk};
 ghost use Rattle.t1s_base.specs.Numbers.{number_of};
-ghost use Rattle.t1s_script.specs.Saying.{end_in, end_said, late_in, late_said, node_in, node_said, said, said_by, said_in, is_skipped, seed_in, seed_said, set_in, set_said};
+ghost use Rattle.t1s_script.specs.Saying.{end_in, end_said, late_in, late_said, node_in, node_said, said, said_by, said_in, is_skipped, seed_in, seed_said, set_in, set_said, sole_number};
 ghost use Rattle.t1s_script.specs.Lines.{fields_of};
 ghost use Rattle.t1s_script.specs.Ranges.{HasSlot};
 
@@ -99,26 +99,29 @@ fn said_of_end(number: Option<u64>) -> Result<ScriptLine, ScriptReason>
     }
 }
 
-/// What the fields after the word of a setting say.
-fn read_setting(setting: Setting, mut fields: Fields<'_>) -> Result<ScriptLine, ScriptReason>
-    ensures { result ≡ set_in setting fields.entry }
+/// The number of the only field, where one field is left.
+fn sole_number(mut fields: Fields<'_>) -> Result<Option<u64>, ScriptReason>
+    ensures { result ≡ sole_number fields.entry }
 {
-    let number = fields.next().ok_or(ScriptReason::Form)?;
+    let field = fields.next().ok_or(ScriptReason::Form)?;
     if fields.next().is_some() {
         return Err(ScriptReason::Form);
     }
-    said_of_setting(setting, read_number(number))
+    Ok(read_number(field))
+}
+
+/// What the fields after the word of a setting say.
+fn read_setting(setting: Setting, fields: Fields<'_>) -> Result<ScriptLine, ScriptReason>
+    ensures { result ≡ set_in setting fields.entry }
+{
+    said_of_setting(setting, sole_number(fields)?)
 }
 
 /// What the fields after `seed` say.
-fn read_seed(mut fields: Fields<'_>) -> Result<ScriptLine, ScriptReason>
+fn read_seed(fields: Fields<'_>) -> Result<ScriptLine, ScriptReason>
     ensures { result ≡ seed_in fields.entry }
 {
-    let number = fields.next().ok_or(ScriptReason::Form)?;
-    if fields.next().is_some() {
-        return Err(ScriptReason::Form);
-    }
-    said_of_seed(read_number(number))
+    said_of_seed(sole_number(fields)?)
 }
 
 /// What the fields after `node` say.
@@ -149,14 +152,10 @@ fn read_late(mut fields: Fields<'_>) -> Result<ScriptLine, ScriptReason>
 }
 
 /// What the fields after `end` say.
-fn read_end(mut fields: Fields<'_>) -> Result<ScriptLine, ScriptReason>
+fn read_end(fields: Fields<'_>) -> Result<ScriptLine, ScriptReason>
     ensures { result ≡ end_in fields.entry }
 {
-    let number = fields.next().ok_or(ScriptReason::Form)?;
-    if fields.next().is_some() {
-        return Err(ScriptReason::Form);
-    }
-    said_of_end(read_number(number))
+    said_of_end(sole_number(fields)?)
 }
 
 /// What the fields after the word say.

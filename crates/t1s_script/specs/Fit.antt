@@ -1,4 +1,5 @@
--- Fit scripts: the premises on which the promises of the shared line stand, the span, and the bound of a start.
+-- Fit scripts: the premises on which the promises of the shared line stand, the span, and the number that is
+-- written as the bound of a start.
 use Rattle.std.specs.Prelude.{ℕ, ◌+◌, ◌*◌, ◌≡◌, ◌≢◌, ◌<◌, ◌≤◌, ◌==◌, not, List, [], ◌∷◌, ◌++◌, max, find, slice_get, count_by, nat_lt, nat_le, Option, Some, None, Result, Ok, Err, All, if◌then◌else◌}
 use Rattle.std.specs.Int.{abs_diff}
 use Rattle.t1s_script.specs.declared.fitness.Unfit.{Unfit}
@@ -20,17 +21,18 @@ widest (n ∷ ns) = max (farthest n.place ns) (widest ns)
 abbrev pub span_of : Script → ℕ
 span_of s = widest s.nodes
 
--- ---- the bound of a start, in ticks
+-- ---- the number that is written as the bound of a start, in ticks
 
--- no drive is longer: each of its frames takes at most 12384 ticks
+-- what it counts for a drive: 12384 for each frame, and 136 for what stands round them
 abbrev pub longest_drive : Script → ℕ
 longest_drive s = (1 + s.burst) * 12384 + 136
 
--- no opportunity takes longer, with the way to the farthest node and back, and the carrier reading
+-- what it counts for an opportunity: the timer, a drive, the way to the farthest node and back, and the carrier
+-- reading
 abbrev pub longest_opportunity : Script → ℕ
 longest_opportunity s = s.to + longest_drive s + 2 * span_of s + s.rise + s.fall
 
--- a frame that is first in its ring starts within so many ticks
+-- 1300, and for each opportunity of a cycle and three more the number for an opportunity and 20 for a beacon
 abbrev pub start_bound : Script → ℕ
 start_bound s = 1300 + (s.count + 3) * (longest_opportunity s + 20)
 

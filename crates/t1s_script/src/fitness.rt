@@ -1,17 +1,17 @@
-//! Which scripts are fit, how wide a segment is, and how long a start takes at most.
+//! Which scripts are fit, how wide a segment is, and the number that is written as the bound of a start.
 ghost use Rattle.std.specs.Prelude.{◌≡◌, ◌≤◌, ◌↔◌, ◌==◌, Err, IsOk, find, nat_le, not};
 ghost use Rattle.t1s_script.specs.declared.script.NodeLine.{NodeLine};
 ghost use Rattle.t1s_script.specs.Fit.{IsFit, farthest, fitness_of, longest_opportunity, span_of, start_bound, unmet, with_high_id, with_long_bursts, with_long_cable, with_other_timer, with_repeat, without_one_coordinator};
 
 use crate::script::{NodeLine, Script};
 
-/// How many ticks a frame takes on the line at most, with what stands round it.
+/// What the bound counts for a frame of a drive, in ticks.
 const LONGEST_FRAME: u64 = 12_384;
 
-/// How many ticks a drive takes beside its frames.
+/// What the bound counts for a drive beside its frames, in ticks.
 const DRIVE_EDGES: u64 = 136;
 
-/// How many ticks pass from the head of a ring to a ready node.
+/// What the bound counts beside the opportunities, in ticks.
 const READY: u64 = 1300;
 
 /// How many ticks a beacon takes.
@@ -68,7 +68,7 @@ pub fn span(s: &Script) -> u64
     wide(most)
 }
 
-/// How many ticks an opportunity takes at most.
+/// What the bound counts for an opportunity, in ticks: the timer, a drive, twice the span, `rise` and `fall`.
 fn opportunity(s: &Script) -> u64
     ensures value { result ≡ longest_opportunity s.now }
     ensures small { result ≤ 4000000 }
@@ -77,8 +77,9 @@ fn opportunity(s: &Script) -> u64
     wide(s.to) + drive + 2 * span(s) + wide(s.rise) + wide(s.fall)
 }
 
-/// How many ticks a frame that is first in its ring waits at most for its start, where the script is fit
-/// and every status was OK before. It is never too large for its type, also where the script isn't fit.
+/// The number that is written as the bound of a start, in ticks. It is 1300 and, `count + 3` times, 20 and
+/// what it counts for an opportunity: `to`, a drive of `(1 + burst) * 12384 + 136`, twice the span, `rise`
+/// and `fall`. It has no condition: each script has one, fit or not, and it fits its type.
 pub fn bound(s: &Script) -> u64
     ensures { result ≡ start_bound s.now }
 {

@@ -14,7 +14,7 @@ abbrev pub stands_after_end : List Said → Said → Bool
 stands_after_end earlier (Ok Skipped) = false
 stands_after_end earlier line = some_gives end_from earlier
 
--- `Twice`: a line that may stand once stands again
+-- `Twice`: a line that may stand once stands again; a second `end` is `AfterEnd`
 abbrev pub stands_again : List Said → ScriptLine → Bool
 stands_again earlier (Set w n) = some_gives (number_for w) earlier
 stands_again earlier (Seed n) = some_gives seed_from earlier
@@ -32,19 +32,19 @@ abbrev pub ends_without_node : List Said → ScriptLine → Bool
 ends_without_node earlier (End last) = not (list_any is_node earlier)
 ends_without_node earlier _ = false
 
--- the first reason for a line that says something by itself
-abbrev pub reason_beside : List Said → ScriptLine → Option ScriptReason
-reason_beside earlier line =
+-- the first reason that the lines before a line give for it
+abbrev pub reason_among : List Said → ScriptLine → Option ScriptReason
+reason_among earlier line =
     if stands_again earlier line then Some Twice
     else if names_unknown_node earlier line then Some UnknownNode
     else if ends_without_node earlier line then Some NoNode
     else None
 
--- the line's own reason comes before those that earlier lines give
-abbrev pub own_reason_first : List Said → Said → Option ScriptReason
-own_reason_first earlier (Err reason) = Some reason
-own_reason_first earlier (Ok line) = reason_beside earlier line
+-- the first reason where `end` didn't stand before: the line's own reason comes first
+abbrev pub reason_before_end : List Said → Said → Option ScriptReason
+reason_before_end earlier (Err reason) = Some reason
+reason_before_end earlier (Ok line) = reason_among earlier line
 
--- the first reason for any line
+-- the first reason of all, if the line breaks any rule
 abbrev pub reason_of : List Said → Said → Option ScriptReason
-reason_of earlier line = if stands_after_end earlier line then Some AfterEnd else own_reason_first earlier line
+reason_of earlier line = if stands_after_end earlier line then Some AfterEnd else reason_before_end earlier line

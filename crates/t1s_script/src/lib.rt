@@ -1,9 +1,10 @@
 //! Scripts: what a segment is to be run with, how a script is read from its octets, and which are fit.
 //!
-//! The layer above uses that `read_script` answers what the definition of reading gives, and that the
-//! script of an `Ok` is valid (`IsScript` in `specs/Script.antt`). Reading stands in `specs/Reading.antt`,
-//! with what a line says by itself in `specs/Saying.antt` and what it adds to the lines before it in
-//! `specs/Draft.antt`. Fit scripts, the span and the bound stand in `specs/Fit.antt`.
+//! The layer above uses that `read_script` answers what the definition gives, and that the script of an
+//! `Ok` is valid (`IsScript` in `specs/Script.antt`). The definition, `script_of` in `specs/Reading.antt`,
+//! speaks of the list of all lines; what a line says by itself stands in `specs/Saying.antt`, and the rules
+//! that it can break in the light of the lines before it in `specs/Rules.antt`. `specs/Draft.antt` is only
+//! what the code keeps while it reads. Fit scripts, the span and the bound stand in `specs/Fit.antt`.
 #![tactic(auto)]
 
 mod draft;

@@ -340,6 +340,7 @@ module _ (lines : List Said) (d : Draft) (h : Holds lines d) where
     line_step (Late number start) range = late_step number start range.0
     line_step (End last) range = end_step last
 
+    -- any line where no `end` line stands before it
     open_step : (line : Said) → ((l : ScriptLine) → line ≡ Ok l → InRange l) → IsStep lines line (said_after d None line)
     open_step (Err reason) range = rw no_end refl
     open_step (Ok line) range = line_step line (range line refl)
@@ -348,6 +349,7 @@ module _ (lines : List Said) (d : Draft) (h : Holds lines d) where
   ended : (last : ℕ) → d.end ≡ Some last → some_gives end_from lines ≡ true
   ended last here = gives end_from lines d.end h.end ∙ ap is_some here
 
+  -- any line
   said_step : (line : Said) → ((l : ScriptLine) → line ≡ Ok l → InRange l) → IsStep lines line (draft_after d line)
   said_step (Ok Skipped) range = (refl, skipped_step)
   said_step line range = go d.end refl
@@ -365,6 +367,7 @@ node_held lines to number slot timer starts =
     ap (λ t. record { no = number; id = slot.id; place = slot.place; to = t; start = unwrap_or slot.start 0 }) timer
     ∙ ap (λ t. record { no = number; id = slot.id; place = slot.place; to = setting_of To lines; start = t }) (first (start_for number) lines slot.start 0 starts)
 
+-- the nodes of one slot, and of all slots from a number on
 slot_held : (lines : List Said) (to number : ℕ) (slot : Option Slot) → to ≡ setting_of To lines
     → option_to_list (option_map id_and_place slot) ≡ filter_map (node_for number) lines → option_to_list (start_in slot) ≡ filter_map (start_for number) lines
     → option_to_list (option_map (node_of to number) slot) ≡ nodes_of_number lines number
@@ -410,10 +413,12 @@ reading_from number (Err reason) lines = refused_at number reason
 reading_from number (Ok d) [] = script_at (number + 1) d d.end
 reading_from number (Ok d) (line ∷ lines) = reading_from (number + 1) (draft_after d line) lines
 
+-- the answer where all lines were taken
 end_held : (lines : List Said) (d : Draft) (number : ℕ) → Holds lines d → number ≡ length lines + 2 → (o : Option ℕ) → option_to_list o ≡ filter_map end_from lines → script_at number d o ≡ script_by lines (filter_map end_from lines)
 end_held lines d number h count None e = ap (λ k. refused_at k NoEnd) count ∙ ap (script_by lines) e
 end_held lines d number h count (Some last) e = ap Ok (script_held lines d last h) ∙ ap (script_by lines) e
 
+-- where a draft holds the lines before, reading the others gives what is said over all lines
 reading_answers : (before : List Said) (d : Draft) (all : List Said) (n : ℕ) (rest : List (List ℕ)) → Holds before d → all ≡ before ++ map said rest → n ≡ length before
     → reading_from (n + 1) (Ok d) (map said rest) ≡ answer_from all n (map said rest)
 reading_answers before d all n [] h whole count =

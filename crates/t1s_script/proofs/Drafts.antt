@@ -140,15 +140,31 @@ module _ (lines : List Said) (d : Draft) (h : Holds lines d) where
   same_nodes : (line : Said) → is_node line ≡ false → list_any is_some d.slots ≡ list_any is_node (lines ++ line ∷ [])
   same_nodes line none = grind (arith, h.some_node, node_or line)
 
+  -- what a line gives none of stays as it is
+  same_settings : (line : Said) → ((w : Setting) → number_for w line ≡ None) → (w : Setting) → option_to_list (given d.settings w) ≡ filter_map (number_for w) (lines ++ line ∷ [])
+  same_settings line none w = kept (number_for w) lines line (given d.settings w) (h.settings w) (none w)
+
+  same_seed : (line : Said) → seed_from line ≡ None → option_to_list d.seed ≡ filter_map seed_from (lines ++ line ∷ [])
+  same_seed line none = kept seed_from lines line d.seed h.seed none
+
+  same_places : (line : Said) (k : ℕ) → node_for k line ≡ None → option_to_list (option_map id_and_place (slot_at d k)) ≡ filter_map (node_for k) (lines ++ line ∷ [])
+  same_places line k none = kept (node_for k) lines line (option_map id_and_place (slot_at d k)) (h.places k) none
+
+  same_starts : (line : Said) (k : ℕ) → start_for k line ≡ None → option_to_list (start_in (slot_at d k)) ≡ filter_map (start_for k) (lines ++ line ∷ [])
+  same_starts line k none = kept (start_for k) lines line (start_in (slot_at d k)) (h.starts k) none
+
+  same_end : (line : Said) → end_from line ≡ None → option_to_list d.end ≡ filter_map end_from (lines ++ line ∷ [])
+  same_end line none = kept end_from lines line d.end h.end none
+
   skipped_step : Holds (lines ++ Ok Skipped ∷ []) d
   skipped_step = record {
-    settings = λ w. kept (number_for w) lines (Ok Skipped) (given d.settings w) (h.settings w) refl;
-    seed = kept seed_from lines (Ok Skipped) d.seed h.seed refl;
-    places = λ number. kept (node_for number) lines (Ok Skipped) (option_map id_and_place (slot_at d number)) (h.places number) refl;
-    starts = λ number. kept (start_for number) lines (Ok Skipped) (start_in (slot_at d number)) (h.starts number) refl;
+    settings = same_settings (Ok Skipped) (λ w. refl);
+    seed = same_seed (Ok Skipped) refl;
+    places = λ k. same_places (Ok Skipped) k refl;
+    starts = λ k. same_starts (Ok Skipped) k refl;
     size = h.size;
     some_node = same_nodes (Ok Skipped) refl;
-    end = kept end_from lines (Ok Skipped) d.end h.end refl;
+    end = same_end (Ok Skipped) refl;
   }
 
   module _ (open_end : d.end ≡ None) where
@@ -165,12 +181,12 @@ module _ (lines : List Said) (d : Draft) (h : Holds lines d) where
           rw (no_end, test) refl,
           record {
             settings = λ v. setting_kept lines d.settings w v n here (h.settings v);
-            seed = kept seed_from lines (Ok (Set w n)) d.seed h.seed refl;
-            places = λ number. kept (node_for number) lines (Ok (Set w n)) (option_map id_and_place (slot_at d number)) (h.places number) refl;
-            starts = λ number. kept (start_for number) lines (Ok (Set w n)) (start_in (slot_at d number)) (h.starts number) refl;
+            seed = same_seed (Ok (Set w n)) refl;
+            places = λ k. same_places (Ok (Set w n)) k refl;
+            starts = λ k. same_starts (Ok (Set w n)) k refl;
             size = h.size;
             some_node = same_nodes (Ok (Set w n)) refl;
-            end = kept end_from lines (Ok (Set w n)) d.end h.end refl;
+            end = same_end (Ok (Set w n)) refl;
           },
         )
 
@@ -182,13 +198,13 @@ module _ (lines : List Said) (d : Draft) (h : Holds lines d) where
         go None here test = (
           rw (no_end, test) refl,
           record {
-            settings = λ w. kept (number_for w) lines (Ok (Seed n)) (given d.settings w) (h.settings w) refl;
+            settings = same_settings (Ok (Seed n)) (λ w. refl);
             seed = gained seed_from lines (Ok (Seed n)) d.seed n h.seed here refl;
-            places = λ number. kept (node_for number) lines (Ok (Seed n)) (option_map id_and_place (slot_at d number)) (h.places number) refl;
-            starts = λ number. kept (start_for number) lines (Ok (Seed n)) (start_in (slot_at d number)) (h.starts number) refl;
+            places = λ k. same_places (Ok (Seed n)) k refl;
+            starts = λ k. same_starts (Ok (Seed n)) k refl;
             size = h.size;
             some_node = same_nodes (Ok (Seed n)) refl;
-            end = kept end_from lines (Ok (Seed n)) d.end h.end refl;
+            end = same_end (Ok (Seed n)) refl;
           },
         )
 
@@ -200,10 +216,10 @@ module _ (lines : List Said) (d : Draft) (h : Holds lines d) where
         go true any = let test : list_any is_node lines ≡ true = sym h.some_node ∙ any in (
           rw (no_end, test) refl,
           record {
-            settings = λ w. kept (number_for w) lines (Ok (End last)) (given d.settings w) (h.settings w) refl;
-            seed = kept seed_from lines (Ok (End last)) d.seed h.seed refl;
-            places = λ number. kept (node_for number) lines (Ok (End last)) (option_map id_and_place (slot_at d number)) (h.places number) refl;
-            starts = λ number. kept (start_for number) lines (Ok (End last)) (start_in (slot_at d number)) (h.starts number) refl;
+            settings = same_settings (Ok (End last)) (λ w. refl);
+            seed = same_seed (Ok (End last)) refl;
+            places = λ k. same_places (Ok (End last)) k refl;
+            starts = λ k. same_starts (Ok (End last)) k refl;
             size = h.size;
             some_node = same_nodes (Ok (End last)) refl;
             end = gained end_from lines (Ok (End last)) d.end last h.end open_end refl;
@@ -247,7 +263,7 @@ module _ (lines : List Said) (d : Draft) (h : Holds lines d) where
             (ap (λ o. option_map id_and_place o) (here_at here k same)) (ap (λ b. cond b (Some (id, place)) None) test)
         places_put here k (inr (test, other)) =
             ap (λ o. option_to_list (option_map id_and_place o)) (put_other number (new_slot id place) few k other)
-            ∙ kept (node_for k) lines (Ok (Node number id place)) (option_map id_and_place (slot_at d k)) (h.places k) (ap (λ b. cond b (Some (id, place)) None) test)
+            ∙ same_places (Ok (Node number id place)) k (ap (λ b. cond b (Some (id, place)) None) test)
 
         starts_put : slot_at d number ≡ None → (k : ℕ) → Tested number k → option_to_list (start_in (slot_at (with_slot d number (new_slot id place)) k)) ≡ filter_map (start_for k) (lines ++ Ok (Node number id place) ∷ [])
         starts_put here k (inl (test, same)) =
@@ -255,7 +271,7 @@ module _ (lines : List Said) (d : Draft) (h : Holds lines d) where
             ∙ kept (start_for k) lines (Ok (Node number id place)) None (ap (λ o. option_to_list (start_in o)) (sym (here_at here k same)) ∙ h.starts k) refl
         starts_put here k (inr (test, other)) =
             ap (λ o. option_to_list (start_in o)) (put_other number (new_slot id place) few k other)
-            ∙ kept (start_for k) lines (Ok (Node number id place)) (start_in (slot_at d k)) (h.starts k) refl
+            ∙ same_starts (Ok (Node number id place)) k refl
 
         go : (o : Option Slot) → slot_at d number ≡ o → some_gives (node_for number) lines ≡ is_some (option_map id_and_place (slot_at d number)) → IsStep lines (Ok (Node number id place)) (cond (is_some o) (Err Twice) (Ok (with_slot d number (record { id = id; place = place; start = None }))))
         go (Some old) here stood =
@@ -265,13 +281,13 @@ module _ (lines : List Said) (d : Draft) (h : Holds lines d) where
             let test : some_gives (node_for number) lines ≡ false = stood ∙ ap (λ o. is_some (option_map id_and_place o)) here in (
               rw (no_end, test) refl,
               record {
-                settings = λ w. kept (number_for w) lines (Ok (Node number id place)) (given d.settings w) (h.settings w) refl;
-                seed = kept seed_from lines (Ok (Node number id place)) d.seed h.seed refl;
+                settings = same_settings (Ok (Node number id place)) (λ w. refl);
+                seed = same_seed (Ok (Node number id place)) refl;
                 places = λ k. places_put here k (eqb_tells number k);
                 starts = λ k. starts_put here k (eqb_tells number k);
                 size = put_size number (new_slot id place) few;
                 some_node = put_any number (new_slot id place) few ∙ sym (node_or (Ok (Node number id place)) ∙ or-true (list_any is_node lines));
-                end = kept end_from lines (Ok (Node number id place)) d.end h.end refl;
+                end = same_end (Ok (Node number id place)) refl;
               },
             )
 
@@ -287,10 +303,10 @@ module _ (lines : List Said) (d : Draft) (h : Holds lines d) where
       places_late k (inl (test, same)) =
           ap (λ o. option_to_list (option_map id_and_place o)) (put_at number late_slot few k same)
           ∙ ap (λ o. option_to_list (option_map id_and_place o)) (sym (still_at k same))
-          ∙ kept (node_for k) lines (Ok (Late number start)) (option_map id_and_place (slot_at d k)) (h.places k) refl
+          ∙ same_places (Ok (Late number start)) k refl
       places_late k (inr (test, other)) =
           ap (λ o. option_to_list (option_map id_and_place o)) (put_other number late_slot few k other)
-          ∙ kept (node_for k) lines (Ok (Late number start)) (option_map id_and_place (slot_at d k)) (h.places k) refl
+          ∙ same_places (Ok (Late number start)) k refl
 
       starts_late : (k : ℕ) → Tested number k → option_to_list (start_in (slot_at (with_slot d number late_slot) k)) ≡ filter_map (start_for k) (lines ++ Ok (Late number start) ∷ [])
       starts_late k (inl (test, same)) =
@@ -298,17 +314,17 @@ module _ (lines : List Said) (d : Draft) (h : Holds lines d) where
           ∙ gained (start_for k) lines (Ok (Late number start)) (start_in (slot_at d k)) start (h.starts k) (ap start_in (still_at k same) ∙ free) (ap (λ b. cond b (Some start) None) test)
       starts_late k (inr (test, other)) =
           ap (λ o. option_to_list (start_in o)) (put_other number late_slot few k other)
-          ∙ kept (start_for k) lines (Ok (Late number start)) (start_in (slot_at d k)) (h.starts k) (ap (λ b. cond b (Some start) None) test)
+          ∙ same_starts (Ok (Late number start)) k (ap (λ b. cond b (Some start) None) test)
 
       late_holds : Holds (lines ++ Ok (Late number start) ∷ []) (with_slot d number late_slot)
       late_holds = record {
-        settings = λ w. kept (number_for w) lines (Ok (Late number start)) (given d.settings w) (h.settings w) refl;
-        seed = kept seed_from lines (Ok (Late number start)) d.seed h.seed refl;
+        settings = same_settings (Ok (Late number start)) (λ w. refl);
+        seed = same_seed (Ok (Late number start)) refl;
         places = λ k. places_late k (eqb_tells number k);
         starts = λ k. starts_late k (eqb_tells number k);
         size = put_size number late_slot few;
         some_node = put_any number late_slot few ∙ sym (any_at d.slots number slot here) ∙ same_nodes (Ok (Late number start)) refl;
-        end = kept end_from lines (Ok (Late number start)) d.end h.end refl;
+        end = same_end (Ok (Late number start)) refl;
       }
 
     late_step : (number start : ℕ) → number ≤ 15 → IsStep lines (Ok (Late number start)) (late_in_slot d number start (slot_at d number))

@@ -41,7 +41,7 @@ pub enum TxReport {
     Quiet,
     /// A beacon or a commit is driven.
     Leading,
-    /// A piece is driven, up to its closer.
+    /// A piece is driven, until its closer ends.
     Framing,
     /// The closer of a piece has just ended: `good` where it closed a good piece.
     Closed { good: bool },

@@ -5,9 +5,8 @@ use Rattle.t1s_symbols.specs.declared.Symbol.{Symbol}
 use Rattle.t1s_symbols.specs.declared.Symbol.TheVariants.{Nibble, J, K, T, R, H, N, S}
 use Rattle.t1s_symbols.specs.Ranges.{IsSymbol}
 
--- the 23 pairs of a symbol and its group. The groups of the sixteen nibbles are the 4B/5B code that IEEE
--- 802.3 clause 147 uses; the seven control symbols are this project's closed list. Silence (0x1F) is no
--- symbol, and has no row
+-- the 23 pairs of a symbol and its group: a closed list of this project's own, and no statement about the
+-- standard. Silence (0x1F) is no symbol, and has no row
 abbrev pub group_table : List (Symbol × ℕ)
 group_table =
     (Nibble 0x0, 0x1E) ∷ (Nibble 0x1, 0x09) ∷ (Nibble 0x2, 0x14) ∷ (Nibble 0x3, 0x15)

@@ -51,16 +51,16 @@ pub enum Heard {
     Many,
 }
 
-/// What a receiver takes a burst for.
+/// What a receiver takes a burst for, by the first symbol of it that is read.
 #[derive(Clone, Copy, PartialEq, Eq, Debug)]
 pub enum Class {
     /// Nothing is decided.
     None,
-    /// Five symbols N.
+    /// The first symbol is N.
     Beacon,
-    /// A commit, with or without pieces.
+    /// The first symbol is J.
     Run,
-    /// Anything else.
+    /// The first symbol is another one, or reading ended while nothing was decided.
     Other,
 }
 
@@ -109,9 +109,8 @@ macro_rules! groups {
     };
 }
 
-/// The 5B group of a symbol. The groups of the sixteen nibbles are the 4B/5B code that IEEE 802.3
-/// clause 147 uses. The seven control symbols are a closed list of this project's own: that clause 147
-/// gives a group the use named here isn't claimed.
+/// The 5B group of a symbol. The whole table, nibbles and control symbols alike, is a closed list of this
+/// project's own: that IEEE 802.3 clause 147 gives a group the use named here isn't claimed.
 #[tactic(auto, unfolding(crate::specs::Groups::IsPair, crate::specs::Groups::group))]
 pub fn group_of(s: Symbol) -> u8
     requires { IsSymbol s }

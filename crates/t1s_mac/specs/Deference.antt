@@ -1,13 +1,15 @@
--- Deference: whether the MAC may start a frame (IEEE 802.3 clause 4.2.3.2.1).
+-- Deference: whether the MAC may start a frame. It stands for the deference of IEEE 802.3 clause 4.2.3.2.1 by a
+-- rule of this project's own: the interframe gap is one part of 96 ticks, which later carrier doesn't restart.
 use Rattle.std.specs.Prelude.{ℕ, ◌-◌, ◌==◌, Bool, false, not, ◌&&◌, nat_lt, if◌then◌else◌}
 use Rattle.t1s_mac.specs.declared.deference.Deference.{Deference}
 use Rattle.t1s_mac.specs.declared.deference.Deference.TheVariants.{Free, Busy, Gap}
 
--- how many ticks the line must have been free before a frame starts
+-- how many ticks an interframe gap lasts, once it has begun, whatever the carrier
 abbrev pub interframe_gap : ℕ
 interframe_gap = 96
 
--- whether a frame may start in a tick: the line is free now, or the gap has its last tick
+-- whether a frame may start in a tick: in Free where there is no carrier, and in the gap's last tick, also with
+-- carrier
 abbrev pub may_start : Deference → Bool → Bool
 may_start Free carrier = not carrier
 may_start Busy carrier = false

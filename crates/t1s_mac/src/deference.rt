@@ -2,17 +2,19 @@
 ghost use Rattle.std.specs.Prelude.{◌≡◌};
 ghost use Rattle.t1s_mac.specs.Deference.{may_start, deference_step};
 
-/// How many ticks the line must have been free before a frame starts.
+/// How many ticks an interframe gap lasts, once it has begun, whatever the carrier.
 const INTERFRAME_GAP: u8 = 96;
 
-/// What the MAC has seen of the carrier (IEEE 802.3 clause 4.2.3.2.1).
+/// What the MAC has seen of the carrier. It stands for the deference of IEEE 802.3 clause 4.2.3.2.1 by a rule of
+/// this project's own: the interframe gap is one part of 96 ticks, which later carrier doesn't restart.
 #[derive(Clone, Copy)]
 pub enum Deference {
-    /// The line is free, and has been so for an interframe gap.
+    /// There has been no carrier since the last interframe gap ran out.
     Free,
-    /// The line is busy.
+    /// The line has been busy, and no interframe gap has begun since.
     Busy,
-    /// So many ticks of the interframe gap are left, of 1 to 96, whatever the carrier does.
+    /// So many ticks of the interframe gap are left, of 1 to 96. It goes on under carrier, and its last tick may
+    /// start a frame even so.
     Gap(u8),
 }
 

@@ -1,5 +1,5 @@
 //! A piece as text of the line: one group an octet.
-ghost use Rattle.std.specs.Prelude.{◌≡◌, ◌↔◌, ◌+◌, ◌<◌, ◌≤◌, List, [], ◌∷◌, ◌++◌, map, replicate, OnOk, OnErr};
+ghost use Rattle.std.specs.Prelude.{◌≡◌, ◌↔◌, ◌+◌, ◌<◌, ◌≤◌, List, [], ◌∷◌, ◌++◌, length, map, replicate, OnOk, OnErr};
 ghost use Rattle.arrayvec.specs.ArrayVec.{array_vec_len};
 ghost use Rattle.t1s_symbols.specs.Groups.{group};
 ghost use Rattle.t1s_symbols.specs.Ranges.{IsSymbol};
@@ -57,9 +57,10 @@ impl PieceText {
         }
     }
 
-    /// Its octets.
+    /// Its octets, 8192 at most.
     pub fn as_slice(&self) -> &[u8]
-        ensures { result.now ≡ self.now }
+        ensures value { result.now ≡ self.now }
+        ensures fits { length self.now ≤ 8192 }
     {
         self.held.as_slice()
     }

@@ -1,7 +1,6 @@
 //! The row of ticks that a writer is in: a gap, or a burst that it reads.
 ghost use Rattle.std.specs.Prelude.{◌≡◌, ◌≤◌, ◌+◌, ◌<◌, ◌∷◌, ℕ, IfSome};
 ghost use Rattle.t1s_symbols.specs.Ranges.{IsSymbol, IsQuarter};
-ghost use Rattle.t1s_symbols.specs.Groups.{same_symbol};
 ghost use Rattle.t1s_grammar.specs.Steps.{place_step};
 ghost use Rattle.t1s_capture.specs.Captures.{count_octets};
 ghost use Rattle.t1s_capture.specs.Writing.{reading_step, quarter_step, symbol_ends, follows, ticks_begun, nothing_read, reading_end, row_end, sound_step, silent_step, RowFits};
@@ -9,7 +8,7 @@ ghost use Rattle.t1s_capture.specs.Writing.{reading_step, quarter_step, symbol_e
 use crate::format::{GAP, TORN};
 use crate::octets::Octets;
 use t1s_grammar::Place;
-use t1s_symbols::{Quarter, Symbol, group_of};
+use t1s_symbols::{Quarter, Symbol, group_of, same_symbol};
 
 /// The last part of a symbol.
 const LAST_PART: u8 = 3;
@@ -58,22 +57,6 @@ fn follows(last: Option<Quarter>, quarter: Quarter) -> bool
         Some(before) => {
             same_symbol(before.sym, quarter.sym) && quarter.part as u32 == before.part as u32 + 1
         }
-    }
-}
-
-fn same_symbol(a: Symbol, b: Symbol) -> bool
-    ensures { result ≡ same_symbol a b }
-{
-    match (a, b) {
-        (Symbol::Nibble(m), Symbol::Nibble(n)) => m == n,
-        (Symbol::J, Symbol::J)
-        | (Symbol::K, Symbol::K)
-        | (Symbol::T, Symbol::T)
-        | (Symbol::R, Symbol::R)
-        | (Symbol::H, Symbol::H)
-        | (Symbol::N, Symbol::N)
-        | (Symbol::S, Symbol::S) => true,
-        _ => false,
     }
 }
 

@@ -1,7 +1,6 @@
 //! The reading of bursts, a quarter at a time.
 ghost use Rattle.std.specs.Prelude.{◌≡◌, ◌<◌, ◌≤◌, length, All, IfSome, IsTrue};
 ghost use Rattle.t1s_symbols.specs.Ranges.{IsHeard, IsQuarter, IsSymbol};
-ghost use Rattle.t1s_symbols.specs.Groups.{same_symbol};
 ghost use Rattle.t1s_pcs_rx.specs.Receiver.{Receiver, receive_start};
 ghost use Rattle.t1s_pcs_rx.specs.Receive.{class_after, class_at_end, class_in, class_of, closed_by, closing_at, closing_by, closing_from, closing_in, continues, continues_last, counted, ended, entered, heard_by, history_after, judged, nibbles_after, quarter_heard, receive_step};
 ghost use Rattle.t1s_pcs_rx.specs.Ranges.{kept_at, HasRoom};
@@ -14,7 +13,7 @@ use std::marker::Model;
 use std::mem;
 use t1s_grammar::Place;
 use t1s_scramble::Descrambler;
-use t1s_symbols::{Class, Heard, Quarter, Symbol};
+use t1s_symbols::{Class, Heard, Quarter, Symbol, same_symbol};
 
 /// The part of a quarter that completes its symbol.
 const LAST_PART: u8 = 3;
@@ -245,23 +244,6 @@ fn counted(heard: Heard, own: bool) -> Heard
             }
         }
         Heard::Many => Heard::Many,
-    }
-}
-
-/// Whether two symbols are the same.
-fn same_symbol(a: Symbol, b: Symbol) -> bool
-    ensures { result ≡ same_symbol a b }
-{
-    match (a, b) {
-        (Symbol::Nibble(x), Symbol::Nibble(y)) => x == y,
-        (Symbol::J, Symbol::J) => true,
-        (Symbol::K, Symbol::K) => true,
-        (Symbol::T, Symbol::T) => true,
-        (Symbol::R, Symbol::R) => true,
-        (Symbol::H, Symbol::H) => true,
-        (Symbol::N, Symbol::N) => true,
-        (Symbol::S, Symbol::S) => true,
-        _ => false,
     }
 }
 

@@ -1,8 +1,7 @@
 ghost use Rattle.std.specs.Prelude.{◌≡◌};
-ghost use Rattle.t1s_symbols.specs.Groups.{same_symbol};
 ghost use Rattle.t1s_segment.specs.Receiver.{class_of, continues, continues_last, counted, ended, entered, heard_by, reading_of, receiver_start, receiver_step};
 
-use t1s_symbols::{Class, Heard, Quarter, Symbol};
+use t1s_symbols::{Class, Heard, Quarter, Symbol, same_symbol};
 
 /// Where a receiver is in what it hears.
 #[derive(Clone, Copy)]
@@ -21,23 +20,6 @@ pub enum Burst {
 pub struct Receiver {
     pub class: Class,
     pub burst: Burst,
-}
-
-/// Whether two symbols are the same.
-fn same_symbol(a: Symbol, b: Symbol) -> bool
-    ensures { result ≡ same_symbol a b }
-{
-    match (a, b) {
-        (Symbol::Nibble(x), Symbol::Nibble(y)) => x == y,
-        (Symbol::J, Symbol::J) => true,
-        (Symbol::K, Symbol::K) => true,
-        (Symbol::T, Symbol::T) => true,
-        (Symbol::R, Symbol::R) => true,
-        (Symbol::H, Symbol::H) => true,
-        (Symbol::N, Symbol::N) => true,
-        (Symbol::S, Symbol::S) => true,
-        _ => false,
-    }
 }
 
 /// Whether a quarter continues the one before.

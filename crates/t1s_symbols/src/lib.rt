@@ -1,13 +1,13 @@
 //! The symbols of the line, their 5B code groups, and what a node hears in a tick.
 //!
 //! The layer above uses `group_of` and `symbol_of`: both read one table of 23 pairs, `group_table` in
-//! `specs/Groups.antt`. The ranges of nibbles and parts (`IsSymbol`, `IsQuarter`, `IsHeard`) stand in
+//! `specs/Groups.antt`. `same_symbol` compares two symbols. The ranges of nibbles and parts (`IsSymbol`, `IsQuarter`, `IsHeard`) stand in
 //! `specs/Ranges.antt`. That no two symbols have one group, and that each call undoes the other, are laws, in
 //! the module `laws`.
 #![tactic(auto)]
 
 ghost use Rattle.std.specs.Prelude.{◌≡◌, ◌↔◌, IsSome, IfSome};
-ghost use Rattle.t1s_symbols.specs.Groups.{group, symbol, IsPair};
+ghost use Rattle.t1s_symbols.specs.Groups.{group, same_symbol, symbol, IsPair};
 ghost use Rattle.t1s_symbols.specs.Ranges.{IsSymbol};
 
 pub mod laws;
@@ -131,6 +131,23 @@ pub fn symbol_of(group: u8) -> Option<Symbol>
     groups!(symbol of group)
 }
 
+/// Whether two symbols are the same, nibbles by their number.
+pub fn same_symbol(a: Symbol, b: Symbol) -> bool
+    ensures { result ≡ same_symbol a b }
+{
+    match (a, b) {
+        (Symbol::Nibble(m), Symbol::Nibble(n)) => m == n,
+        (Symbol::J, Symbol::J)
+        | (Symbol::K, Symbol::K)
+        | (Symbol::T, Symbol::T)
+        | (Symbol::R, Symbol::R)
+        | (Symbol::H, Symbol::H)
+        | (Symbol::N, Symbol::N)
+        | (Symbol::S, Symbol::S) => true,
+        _ => false,
+    }
+}
+
 #[cfg(test)]
 mod tests {
     use super::*;
@@ -181,6 +198,17 @@ mod tests {
             assert_eq!(rt; symbol, want, "at {group}");
             if let Some(symbol) = symbol {
                 assert_eq!(rt; group_of(symbol), group);
+            }
+        }
+    }
+
+    #[test]
+    fn symbols_are_the_same_by_kind_and_nibble(rt: HostRuntime) {
+        for group in 0..32u8 {
+            for other in 0..32u8 {
+                if let (Some(a), Some(b)) = (symbol_of(group), symbol_of(other)) {
+                    assert_eq!(rt; same_symbol(a, b), group == other);
+                }
             }
         }
     }

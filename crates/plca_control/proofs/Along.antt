@@ -6,7 +6,8 @@ use Rattle.plca_control.specs.declared.ControlSet.{ControlSet}
 use Rattle.plca_control.specs.declared.ControlIn.{ControlIn}
 use Rattle.plca_control.specs.declared.State.{State}
 use Rattle.plca_control.specs.declared.State.TheVariants.{Beacon, Syncing, Commit, Burst}
-use Rattle.plca_control.specs.ControlTable.{control_row, control_start, is_own, is_closed}
+use Rattle.t1s_pcs_tx.specs.State.{is_closed}
+use Rattle.plca_control.specs.ControlTable.{control_row, control_start, is_own}
 use Rattle.plca_control.specs.Runs.{state_at, own_at, cmd_at, transmits_at, is_transmit, Holds, OwnBegins, NoneBegun, NoneClosed}
 use Rattle.plca_control.specs.Laws.{IsBeaconFrom}
 use Rattle.plca_control.proofs.Rows.{command_of, row_command, own_commits, other_commands, is_beacon_state, start_no_beacon, start_not_own, own_from, beacon_from, beacon_waits, commit_waits, burst_waits, commit_ends, burst_ends, begun_transmits, transmit_stays, closed_pauses, transmit_own}

@@ -9,7 +9,8 @@ use Rattle.plca_control.specs.declared.ControlSet.{ControlSet}
 use Rattle.plca_control.specs.declared.ControlIn.{ControlIn}
 use Rattle.plca_control.specs.declared.State.{State}
 use Rattle.plca_control.specs.declared.State.TheVariants.{Beacon, Commit, Transmit, Burst}
-use Rattle.plca_control.specs.ControlTable.{reach, control_row, control_start, is_own, is_closed, is_closed_good}
+use Rattle.t1s_pcs_tx.specs.State.{is_closed}
+use Rattle.plca_control.specs.ControlTable.{reach, control_row, control_start, is_own, is_closed_good}
 use Rattle.plca_control.specs.Runs.{is_transmit}
 
 -- the command is told by the new state

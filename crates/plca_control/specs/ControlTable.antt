@@ -8,6 +8,7 @@ use Rattle.t1s_pcs_tx.specs.declared.TxCmd.{TxCmd}
 use Rattle.t1s_pcs_tx.specs.declared.TxCmd.TheVariants.{None as NoCmd, Beacon as BeaconCmd, Commit as CommitCmd}
 use Rattle.t1s_pcs_tx.specs.declared.TxReport.{TxReport}
 use Rattle.t1s_pcs_tx.specs.declared.TxReport.TheVariants.{Quiet, Leading, Framing, Closed}
+use Rattle.t1s_pcs_tx.specs.State.{is_closed}
 use Rattle.plca_control.specs.declared.ControlSet.{ControlSet}
 use Rattle.plca_control.specs.declared.ControlIn.{ControlIn}
 use Rattle.plca_control.specs.declared.ControlOut.{ControlOut}
@@ -22,13 +23,7 @@ is_beacon BeaconHeard = true
 is_beacon RunHeard = false
 is_beacon OtherHeard = false
 
--- the transmitter has just ended a closer, of a good piece or of any
-abbrev pub is_closed : TxReport → Bool
-is_closed Quiet = false
-is_closed Leading = false
-is_closed Framing = false
-is_closed (Closed good) = true
-
+-- the transmitter has just ended the closer of a good piece
 abbrev pub is_closed_good : TxReport → Bool
 is_closed_good Quiet = false
 is_closed_good Leading = false

@@ -3,7 +3,7 @@ use Rattle.std.specs.Prelude.{◌≡◌, ◌≢◌, ℕ, ◌+◌, ◌<◌, ◌�
 use Rattle.t1s_pcs_tx.specs.declared.TxCmd.TheVariants.{None as NoCmd, Beacon as BeaconCmd}
 use Rattle.plca_control.specs.declared.ControlSet.{ControlSet}
 use Rattle.plca_control.specs.declared.ControlIn.{ControlIn}
-use Rattle.plca_control.specs.ControlTable.{is_closed}
+use Rattle.t1s_pcs_tx.specs.State.{is_closed}
 use Rattle.plca_control.specs.Ranges.{IsControlSet, in_range}
 use Rattle.plca_control.specs.Runs.{state_at, cmd_at, own_at, transmits_at, Holds, OwnBegins, NoneBegun, NoneClosed}
 

@@ -8,7 +8,8 @@ use Rattle.plca_control.specs.declared.ControlOut.{ControlOut}
 use Rattle.plca_control.specs.declared.State.{State}
 use Rattle.plca_control.specs.declared.State.TheVariants.{Transmit}
 use Rattle.plca_control.specs.State.{ControlState}
-use Rattle.plca_control.specs.ControlTable.{control_start, control_step, is_closed}
+use Rattle.t1s_pcs_tx.specs.State.{is_closed}
+use Rattle.plca_control.specs.ControlTable.{control_start, control_step}
 
 -- control as tick t finds it, where `given k` is what it is told in tick k
 unfoldable pub state_at : ControlSet → (ℕ → ControlIn) → ℕ → ControlState

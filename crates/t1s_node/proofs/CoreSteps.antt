@@ -4,11 +4,11 @@ use Rattle.t1s_frame.specs.Frame.{IsFrame}
 use Rattle.t1s_ring.specs.Queue.{Queue, with_last, empty_queue}
 use Rattle.t1s_ring.specs.declared.queued.Queued.{Queued}
 use Rattle.t1s_pcs_tx.specs.declared.TxCmd.{TxCmd}
-use Rattle.t1s_pcs_tx.specs.State.{Stage}
+use Rattle.t1s_pcs_tx.specs.State.{Stage, is_closed}
 use Rattle.t1s_pcs_tx.specs.Transmit.{report_of}
 use Rattle.plca_control.specs.declared.ControlSet.{ControlSet}
 use Rattle.plca_control.specs.declared.State.{State as ControlStage}
-use Rattle.plca_control.specs.ControlTable.{control_row, is_closed}
+use Rattle.plca_control.specs.ControlTable.{control_row}
 use Rattle.plca_data.specs.declared.data_path.State.{State}
 use Rattle.plca_data.specs.DataPathTable.{data_path_step, carrier, collision}
 use Rattle.t1s_mac.specs.declared.deference.Deference.{Deference}

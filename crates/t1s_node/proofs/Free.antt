@@ -3,9 +3,8 @@ use Rattle.std.proofs.Common.{◌≡◌, ℕ, ◌+◌, ◌-◌, ◌==◌, ◌≤
 use Rattle.std.proofs.lemmas.Bool.Decides.{nat_tests}
 use Rattle.t1s_pcs_tx.specs.declared.TxCmd.{TxCmd}
 use Rattle.t1s_pcs_tx.specs.declared.TxCmd.TheVariants.{None as NoCmd, Beacon as BeaconCmd, Commit as CommitCmd}
-use Rattle.t1s_pcs_tx.specs.State.{Stage, Quiet, Beaconing, Committing, Starting}
+use Rattle.t1s_pcs_tx.specs.State.{Stage, Quiet, Beaconing, Committing, Starting, is_closed}
 use Rattle.t1s_pcs_tx.specs.Transmit.{TxTurn, transmit_step, report_of, chosen_turn, told_choice, last_part}
-use Rattle.plca_control.specs.ControlTable.{is_closed}
 use Rattle.t1s_mac.proofs.Rows.{if_both}
 
 -- its stage, the quarter that was driven last, and the quarters left of its symbol

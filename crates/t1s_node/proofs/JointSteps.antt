@@ -3,9 +3,8 @@ use Rattle.std.proofs.Common.{◌≡◌, ℕ, ◌+◌, ◌*◌, ◌==◌, ◌<�
 use Rattle.t1s_symbols.specs.declared.Class.{Class}
 use Rattle.t1s_ring.specs.Queue.{Queue}
 use Rattle.t1s_pcs_tx.specs.declared.TxCmd.TheVariants.{None as NoCmd, Commit as CommitCmd}
-use Rattle.t1s_pcs_tx.specs.State.{Stage, Quiet, TxState, ClosingCloser}
+use Rattle.t1s_pcs_tx.specs.State.{Stage, Quiet, TxState, ClosingCloser, is_closed}
 use Rattle.t1s_pcs_tx.specs.Transmit.{TxTurn, transmit_step, report_of}
-use Rattle.plca_control.specs.ControlTable.{is_closed}
 use Rattle.plca_data.specs.declared.data_path.State.{State}
 use Rattle.plca_data.specs.declared.data_path.State.TheVariants.{Silent, Transmit}
 use Rattle.plca_data.specs.DataPathTable.{data_path_step, carrier, collision, ready, begun, ended, bad}

@@ -3,13 +3,12 @@ use Rattle.std.proofs.Common.{◌≡◌, ℕ, zero, suc, ◌+◌, ◌-◌, ◌*�
 use Rattle.std.proofs.lemmas.Bool.{false≢true}
 use Rattle.t1s_ring.specs.Queue.{Queue}
 use Rattle.t1s_ring.specs.declared.queued.Queued.{Queued}
-use Rattle.plca_control.specs.ControlTable.{is_closed}
 use Rattle.plca_data.specs.declared.data_path.State.{State}
 use Rattle.plca_data.specs.DataPathTable.{ready}
 use Rattle.t1s_mac.specs.declared.deference.Deference.{Deference}
 use Rattle.t1s_mac.specs.declared.outcome.MacNote.{MacNote}
 use Rattle.t1s_mac.specs.State.{Phase}
-use Rattle.t1s_pcs_tx.specs.State.{Stage}
+use Rattle.t1s_pcs_tx.specs.State.{Stage, is_closed}
 use Rattle.t1s_pcs_tx.specs.Transmit.{report_of}
 use Rattle.t1s_node.specs.Core.{Core, control_in}
 use Rattle.t1s_node.specs.Laws.{LeavesAt, CommitsFor, is_commit}

@@ -4,9 +4,8 @@ use Rattle.std.proofs.lemmas.Bool.Decides.{nat_tests}
 use Rattle.t1s_pcs_tx.specs.declared.TxCmd.{TxCmd}
 use Rattle.t1s_pcs_tx.specs.declared.TxCmd.TheVariants.{None as NoCmd, Commit as CommitCmd}
 use Rattle.t1s_pcs_tx.specs.declared.TxReport.TheVariants.{Framing, Closed}
-use Rattle.t1s_pcs_tx.specs.State.{Stage, Quiet, Committing, Starting, ClosingEnd, ClosingCloser}
+use Rattle.t1s_pcs_tx.specs.State.{Stage, Quiet, Committing, Starting, ClosingEnd, ClosingCloser, is_closed}
 use Rattle.t1s_pcs_tx.specs.Transmit.{TxTurn, Choice, transmit_step, report_of, chosen_turn, choice, data_choice, last_part}
-use Rattle.plca_control.specs.ControlTable.{is_closed}
 use Rattle.t1s_node.proofs.Joint.{PieceTx, starting, sending}
 use Rattle.t1s_mac.proofs.Rows.{if_both}
 

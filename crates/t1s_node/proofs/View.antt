@@ -1,5 +1,5 @@
 -- What the law of the node uses of control: a view of its state, and how one step may change it.
-use Rattle.std.proofs.Common.{◌≡◌, ℕ, ◌+◌, ◌-◌, ◌*◌, ◌==◌, ◌<◌, ◌≤◌, Bool, true, false, ◌&&◌, if◌then◌else◌, IsTrue, nat_lt, nat_le, refl, ap, rules, arith}
+use Rattle.std.proofs.Common.{◌≡◌, ℕ, ◌+◌, ◌-◌, ◌*◌, ◌==◌, ◌<◌, ◌≤◌, Bool, true, false, ◌&&◌, IsTrue, nat_lt, nat_le, refl, ap, rules, arith}
 use Rattle.std.proofs.lemmas.Bool.Decides.{nat_tests}
 use Rattle.t1s_pcs_tx.specs.declared.TxCmd.{TxCmd}
 use Rattle.t1s_pcs_tx.specs.declared.TxCmd.TheVariants.{None as NoCmd, Beacon as BeaconCmd, Commit as CommitCmd}
@@ -9,7 +9,8 @@ use Rattle.plca_control.specs.declared.ControlIn.{ControlIn}
 use Rattle.plca_control.specs.declared.State.{State}
 use Rattle.plca_control.specs.declared.State.TheVariants.{Disabled, Recover, Resync, Early, Beacon, Syncing, WaitTo, Receive, Commit, Transmit, Burst, Drain}
 use Rattle.plca_control.specs.Runs.{is_transmit}
-use Rattle.plca_control.specs.ControlTable.{reach, control_row, control_start, is_own, is_active, is_closed, is_closed_good, is_beacon}
+use Rattle.t1s_pcs_tx.specs.State.{is_closed}
+use Rattle.plca_control.specs.ControlTable.{reach, control_row, control_start, is_own, is_active, is_closed_good, is_beacon}
 use Rattle.t1s_node.specs.Laws.{is_commit}
 use Rattle.t1s_mac.proofs.Rows.{if_both}
 

@@ -6,13 +6,13 @@ use Rattle.t1s_symbols.specs.declared.Quarter.{Quarter}
 use Rattle.t1s_ring.specs.Queue.{Queue}
 use Rattle.t1s_ring.specs.declared.queued.Queued.{Queued}
 use Rattle.t1s_pcs_tx.specs.declared.TxCmd.{TxCmd}
-use Rattle.t1s_pcs_tx.specs.State.{TxState, tx_start, first_h_begins}
+use Rattle.t1s_pcs_tx.specs.State.{TxState, tx_start, first_h_begins, is_closed}
 use Rattle.t1s_pcs_tx.specs.Transmit.{TxTurn, transmit_step, report_of}
 use Rattle.plca_control.specs.declared.ControlSet.{ControlSet}
 use Rattle.plca_control.specs.declared.ControlIn.{ControlIn}
 use Rattle.plca_control.specs.declared.ControlOut.{ControlOut}
 use Rattle.plca_control.specs.State.{ControlState}
-use Rattle.plca_control.specs.ControlTable.{control_start, control_step, is_closed}
+use Rattle.plca_control.specs.ControlTable.{control_start, control_step}
 use Rattle.plca_data.specs.declared.DataIn.{DataIn}
 use Rattle.plca_data.specs.declared.data_path.State.{State}
 use Rattle.plca_data.specs.DataPathTable.{data_path_start, data_path_step, carrier, collision, ready, begun, ended, bad}

@@ -12,10 +12,10 @@ use Rattle.t1s_pcs_tx.specs.declared.TxCmd.{TxCmd}
 use Rattle.t1s_pcs_tx.specs.declared.TxCmd.TheVariants.{None as NoCmd, Beacon, Commit}
 use Rattle.t1s_pcs_tx.specs.declared.TxIn.{TxIn}
 use Rattle.t1s_pcs_tx.specs.declared.TxReport.TheVariants.{Framing, Closed}
-use Rattle.t1s_pcs_tx.specs.State.{Stage, Quiet, Beaconing, Committing, Starting, Sending, ClosingEnd, ClosingCloser, TxState, symbol_of, quarter_in}
+use Rattle.t1s_pcs_tx.specs.State.{Stage, Quiet, Beaconing, Committing, Starting, Sending, ClosingEnd, ClosingCloser, TxState, symbol_of, quarter_in, is_closed}
 use Rattle.t1s_pcs_tx.specs.Transmit.{TxTurn, Choice, choice, data_choice, told_choice, choice_after, chosen_turn, turn_to, transmit_step, report_of, at_boundary, is_quiet}
 use Rattle.t1s_pcs_tx.specs.Runs.{Tick, turn, after, driven, popped, lost, all_quarters}
-use Rattle.t1s_pcs_tx.specs.Laws.{is_closed, ClosesLast, IsFed, takes_nibble, IsPieceRun, spelled_piece}
+use Rattle.t1s_pcs_tx.specs.Laws.{ClosesLast, IsFed, takes_nibble, IsPieceRun, spelled_piece}
 use Rattle.t1s_grammar.specs.Burst.{piece_symbols}
 
 abbrev pub at : Stage → ℕ → List Bool → TxState

@@ -7,17 +7,10 @@ use Rattle.t1s_frame.specs.Frame.{IsFrame, nibble_list}
 use Rattle.t1s_grammar.specs.Burst.{Piece, piece_symbols}
 use Rattle.t1s_grammar.specs.Sent.{sent_closer, sent_piece}
 use Rattle.t1s_grammar.specs.Laws.{IsRead}
-use Rattle.t1s_pcs_tx.specs.declared.TxReport.{TxReport}
-use Rattle.t1s_pcs_tx.specs.declared.TxReport.TheVariants.{Quiet as QuietReport, Leading, Framing, Closed}
-use Rattle.t1s_pcs_tx.specs.State.{Stage, Quiet, Beaconing, Committing, Starting, Sending, ClosingEnd, ClosingCloser, TxState, symbol_of}
+use Rattle.t1s_pcs_tx.specs.declared.TxReport.TheVariants.{Closed}
+use Rattle.t1s_pcs_tx.specs.State.{Stage, Quiet, Beaconing, Committing, Starting, Sending, ClosingEnd, ClosingCloser, TxState, symbol_of, is_closed}
 use Rattle.t1s_pcs_tx.specs.Transmit.{at_boundary, report_of}
 use Rattle.t1s_pcs_tx.specs.Runs.{Tick, turn, after, driven, popped, all_quarters, lead_of}
-
-abbrev pub is_closed : TxReport → Bool
-is_closed QuietReport = false
-is_closed Leading = false
-is_closed Framing = false
-is_closed (Closed good) = true
 
 -- a closer ends in the last of these ticks, with that report, and none ends before
 abbrev pub ClosesLast : TxState → List Tick → Bool → Type 0

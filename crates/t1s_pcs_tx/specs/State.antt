@@ -66,6 +66,13 @@ report_by (Sending nibble) ended = Framing
 report_by (ClosingEnd good) ended = Framing
 report_by (ClosingCloser good) ended = if ended then Closed good else Framing
 
+-- a closer has just ended, of a good piece or of a bad one
+abbrev pub is_closed : TxReport → Bool
+is_closed QuietReport = false
+is_closed Leading = false
+is_closed Framing = false
+is_closed (Closed good) = true
+
 -- the first H of a piece begins: its third symbol, in its first quarter
 abbrev pub is_first_h : Stage → Bool
 is_first_h Quiet = false

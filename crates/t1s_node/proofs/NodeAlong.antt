@@ -4,8 +4,8 @@ use Rattle.t1s_ring.specs.declared.queued.Queued.{Queued}
 use Rattle.t1s_mac.specs.Picked.{picked_answer, picked_after}
 use Rattle.t1s_mac.specs.declared.picked.PickedDraws.{PickedDraws}
 use Rattle.t1s_node.specs.Core.{Core, CoreDriven, Sensed, core_drive}
-use Rattle.t1s_node.specs.Node.{NodeState, node_offered, node_sensed, node_drive, node_hear}
-use Rattle.t1s_node.specs.NodeRuns.{NodeTick, node_offers, node_at, node_driven_at, met_by_core}
+use Rattle.t1s_node.specs.Node.{NodeState, node_offered, node_sensed}
+use Rattle.t1s_node.specs.NodeRuns.{NodeTick, node_offers, node_at, met_by_core}
 use Rattle.t1s_node.specs.Runs.{core_offers, core_at, driven_at}
 
 offers_core : (n : NodeState) (qs : List Queued) → (node_offers n qs).core ≡ core_offers n.core qs

@@ -7,7 +7,7 @@ use Rattle.plca_data.specs.declared.data_path.State.{State}
 use Rattle.plca_data.specs.declared.data_path.State.TheVariants.{Pending}
 use Rattle.t1s_mac.specs.declared.deference.Deference.{Deference}
 use Rattle.t1s_mac.specs.declared.outcome.MacNote.{MacNote}
-use Rattle.t1s_mac.specs.State.{Phase, is_sending, number_of, head_number}
+use Rattle.t1s_mac.specs.State.{Phase, is_sending, number_of}
 use Rattle.t1s_pcs_tx.specs.State.{Stage, is_first_h, first_h_begins}
 use Rattle.t1s_node.specs.Core.{Core, core_drive}
 use Rattle.t1s_node.specs.Laws.{LeavesAt, PendsAt}

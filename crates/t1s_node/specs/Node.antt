@@ -1,9 +1,8 @@
 -- A node as plain data, and its two phases of a tick: the core drives, and what is heard sets what the core finds in the
 -- next tick.
-use Rattle.std.specs.Prelude.{ℕ, ◌≤◌, Bool, true, false, ◌&&◌, ◌||◌, [], Option, Some, None}
+use Rattle.std.specs.Prelude.{ℕ, ◌≤◌, Bool, true, false, ◌&&◌, ◌||◌, [], Option, Some, None, is_some}
 use Rattle.t1s_symbols.specs.declared.Heard.{Heard}
 use Rattle.t1s_symbols.specs.declared.Heard.TheVariants.{Nothing, One, Many}
-use Rattle.t1s_symbols.specs.declared.Quarter.{Quarter}
 use Rattle.t1s_ring.specs.Queue.{Queue, empty_queue}
 use Rattle.t1s_ring.specs.declared.queued.Queued.{Queued}
 use Rattle.t1s_pcs_rx.specs.Receiver.{Receiver, receive_start}
@@ -49,10 +48,6 @@ abbrev pub mac_in : Option (MacState PickedDraws) → MacState PickedDraws
 mac_in (Some mac) = mac
 mac_in None = spare_mac
 
-abbrev pub is_held : Option (MacState PickedDraws) → Bool
-is_held (Some mac) = true
-is_held None = false
-
 -- a node at its start
 abbrev pub node_start : NodeSet → Queue → PickedDraws → NodeState
 node_start set queue draws = record {
@@ -76,15 +71,11 @@ node_offered n q = record n { core = core_offered n.core q }
 abbrev pub node_sensed : NodeState → Sensed
 node_sensed n = record { crs = n.carrier.on; class = n.receiver.class; hit = n.hit }
 
-abbrev pub is_driven : Option Quarter → Bool
-is_driven (Some q) = true
-is_driven None = false
-
 -- the node after its drive phase, and what it tells of it
 abbrev pub node_after : NodeState → CoreDriven PickedDraws → NodeState × Driven
 node_after n d =
     let status : StatusState = status_step n.status d.active in (
-      record n { core = d.core; status = status; drove = is_driven d.quarter },
+      record n { core = d.core; status = status; drove = is_some d.quarter },
       record { quarter = d.quarter; note = d.step.note; ok = status_is_ok status; leaves = d.leaves },
     )
 

@@ -7,7 +7,6 @@ use Rattle.t1s_mac.specs.Picked.{picked_answer, picked_after}
 use Rattle.t1s_mac.specs.declared.picked.PickedDraws.{PickedDraws}
 use Rattle.t1s_node.specs.declared.told.NodeSet.{NodeSet}
 use Rattle.t1s_node.specs.declared.told.Driven.{Driven}
-use Rattle.t1s_node.specs.Core.{core_start}
 use Rattle.t1s_node.specs.Node.{NodeState, node_start, node_offered, node_sensed, node_drive, node_hear}
 use Rattle.t1s_node.specs.Runs.{CoreTick, core_at, driven_at}
 

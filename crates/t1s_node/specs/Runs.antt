@@ -1,7 +1,8 @@
 -- Runs of the core of a node, tick by tick.
-use Rattle.std.specs.Prelude.{◌≡◌, ℕ, zero, suc, ◌<◌, ◌≤◌, ◌-◌, Bool, true, false, List, [], ◌∷◌, length, take, All, Option}
+use Rattle.std.specs.Prelude.{◌≡◌, ℕ, zero, suc, ◌<◌, ◌≤◌, Bool, true, false, List, [], ◌∷◌, All, Option}
 use Rattle.t1s_frame.specs.Frame.{IsFrame}
 use Rattle.t1s_ring.specs.declared.queued.Queued.{Queued}
+use Rattle.t1s_pcs_tx.specs.Runs.{lost}
 use Rattle.plca_data.specs.DataPathTable.{carrier}
 use Rattle.t1s_mac.specs.Draws.{draw_bound}
 use Rattle.t1s_mac.specs.State.{Phase, Resting, Deferring, Waiting, Sending, Jamming}
@@ -74,7 +75,7 @@ module _ {D : Type 0} (answer : D → ℕ → ℕ) (after : D → D) (start : Co
   abbrev pub popped_at : ℕ → List ℕ
   popped_at t =
       let c : Core D = found_at t in
-      take (length c.line - length (tx_turn (driven_at t).cmd c).line) c.line
+      lost c.line (tx_turn (driven_at t).cmd c).line
 
   -- what the MAC has told in the ticks before t, the newest first
   abbrev pub told_before : ℕ → List MacStep

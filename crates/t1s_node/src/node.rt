@@ -1,5 +1,5 @@
 //! `Node`, which a segment drives and lets hear once a tick.
-ghost use Rattle.std.specs.Prelude.{◌≡◌, ◌<◌, ◌↔◌, [], length, IsOk, IsErr, IfErr, IfSome, IsTrue};
+ghost use Rattle.std.specs.Prelude.{◌≡◌, ◌<◌, ◌↔◌, [], length, IsOk, IsErr, IsSome, IfErr, IfSome};
 ghost use Rattle.std.specs.Borrow.{sem};
 ghost use Rattle.t1s_symbols.specs.Ranges.{IsHeard, IsQuarter};
 ghost use Rattle.t1s_pcs_rx.specs.Leaves.{event_shown};
@@ -9,7 +9,7 @@ ghost use Rattle.plca_data.specs.Ranges.{IsMacOut};
 ghost use Rattle.t1s_mac.specs.Mac.{mac_step};
 ghost use Rattle.t1s_mac.specs.Picked.{picked_answer, picked_after};
 ghost use Rattle.t1s_mac.specs.State.{number_of};
-ghost use Rattle.t1s_node.specs.Node.{IsNodeSet, mac_in, is_held, node_start, node_offered, node_drive, node_sense, is_clash};
+ghost use Rattle.t1s_node.specs.Node.{IsNodeSet, mac_in, node_start, node_offered, node_drive, node_sense, is_clash};
 ghost use Rattle.t1s_node.specs.Leaves.{LeavesNode};
 
 use crate::carrier::Carrier;
@@ -41,14 +41,14 @@ pub struct Node {
 }
 
 impl Model for Node {
-    ghost use Rattle.std.specs.Prelude.{IsTrue};
-    ghost use Rattle.t1s_node.specs.Node.{NodeState, mac_in, is_held};
+    ghost use Rattle.std.specs.Prelude.{IsSome};
+    ghost use Rattle.t1s_node.specs.Node.{NodeState, mac_in};
 
     ghost Value = { NodeState };
 
     ghost view = { λ n. record { rise = n.rise; fall = n.fall; core = record { control = n.control; mac = mac_in n.mac; tx = n.tx; path = n.path; line = n.line }; status = n.status; carrier = n.carrier; receiver = n.receiver; hit = n.hit; drove = n.drove } };
 
-    ghost invariant = { λ n. IsTrue (is_held n.mac) };
+    ghost invariant = { λ n. IsSome n.mac };
 }
 
 /// Steps the MAC in its slot: what it tells, and the number of the frame in its Sending or Jamming then.
@@ -57,11 +57,11 @@ fn step_mac(
     carrier: bool,
     collision: bool,
 ) -> (MacStep, Option<u16>)
-    requires { IsTrue (is_held slot.old) }
+    requires { IsSome slot.old }
     ensures row { (mac_in slot.new, result.0) ≡ mac_step picked_answer picked_after (mac_in slot.old) carrier collision }
     ensures number { result.1 ≡ number_of (mac_in slot.new) }
     ensures nibble { IsMacOut result.0.out }
-    ensures held { IsTrue (is_held slot.new) }
+    ensures held { IsSome slot.new }
 {
     let held = match slot.take() {
         Some(mac) => mac,

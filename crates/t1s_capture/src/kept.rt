@@ -5,7 +5,7 @@ ghost use Rattle.t1s_capture.specs.Handed.{handed_frame};
 ghost use Rattle.t1s_capture.specs.Kept.{handed, kept_view, shown};
 
 use crate::items::Item;
-use crate::reader::FrameOctets;
+use t1s_frame::FrameOctets;
 use t1s_pcs_rx::{Closer, Kind, PieceView};
 
 /// A piece that is held, with the octets of its frame.

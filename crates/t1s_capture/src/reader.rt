@@ -8,7 +8,7 @@ ghost use Rattle.t1s_capture.specs.Advance.{with_nibble, without_nibbles};
 
 use arrayvec::ArrayVec;
 use std::marker::Model;
-use t1s_frame::{Arrival, classify};
+use t1s_frame::{Arrival, FrameOctets, classify, octets_of};
 use t1s_pcs_rx::{Closer, Kind};
 use t1s_scramble::Descrambler;
 
@@ -16,13 +16,8 @@ use t1s_scramble::Descrambler;
 const NOT_KEPT: u16 = 9;
 /// The most nibbles of a piece that are kept.
 const MOST_KEPT: usize = 3047;
-/// The most octets of a frame.
-const LONGEST: usize = 1522;
 /// The nibbles that are kept up to the end of the start-of-frame delimiter.
 const DELIMITER: usize = 3;
-
-/// The octets of a frame, in fixed room.
-pub type FrameOctets = ArrayVec<u8, LONGEST>;
 
 /// The descrambler of a capture, and the nibbles of the piece that has begun, from the tenth on.
 #[derive(Drop)]
@@ -114,18 +109,5 @@ fn behind_delimiter(nibbles: &[u8]) -> FrameOctets
     if nibbles.len() < DELIMITER {
         return ArrayVec::new();
     }
-    joined(&nibbles[DELIMITER..])
-}
-
-/// The octets of nibbles, low nibble first. An odd last nibble is left out.
-fn joined(nibbles: &[u8]) -> FrameOctets
-    requires fits { length nibbles.now ≤ 2 * LONGEST }
-    requires ranges { All (λ n. n < 16) nibbles.now }
-    ensures { result.items ≡ octets_of nibbles.now }
-{
-    let mut octets = ArrayVec::new();
-    for i in 0..nibbles.len() / 2 {
-        octets.push(nibbles[2 * i] + 16 * nibbles[2 * i + 1]);
-    }
-    octets
+    octets_of(&nibbles[DELIMITER..])
 }

@@ -41,14 +41,18 @@ pub fn classify(nibbles: &[u8]) -> Arrival
     if rest.len() / 2 < SHORTEST {
         return Arrival::Runt;
     }
-    if !has_check(joined(rest).as_slice()) {
+    if !has_check(octets_of(rest).as_slice()) {
         return Arrival::BadFcs;
     }
     Arrival::Good
 }
 
-/// The octets of nibbles, low nibble first. An odd last nibble is left out.
-fn joined(nibbles: &[u8]) -> ArrayVec<u8, LONGEST>
+/// The octets of a frame, or fewer, in fixed room.
+pub type FrameOctets = ArrayVec<u8, LONGEST>;
+
+/// The octets of nibbles, at most 3044 of them and each below 16, low nibble first. An odd last nibble is left out.
+/// It takes no memory.
+pub fn octets_of(nibbles: &[u8]) -> FrameOctets
     requires fits { length nibbles.now ≤ 2 * LONGEST }
     requires ranges { All (λ n. n < 16) nibbles.now }
     ensures { result.items ≡ octets_of nibbles.now }

@@ -13,6 +13,6 @@ mod table;
 #[cfg(test)]
 mod tests;
 
-pub use arrivals::{Arrival, classify};
+pub use arrivals::{Arrival, FrameOctets, classify, octets_of};
 pub use check_sequence::fcs;
 pub use frames::{Frame, FrameFault};

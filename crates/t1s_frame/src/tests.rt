@@ -88,3 +88,12 @@ fn pieces_by_their_first_fault(rt: HostRuntime) -> Result<(), Fail> {
     }
     Ok(())
 }
+
+#[test]
+fn nibbles_join_to_octets_low_one_first(rt: HostRuntime) {
+    assert_eq!(rt;
+        octets_of(&[0x1, 0x2, 0xA, 0x5, 0xF]).as_slice(),
+        [0x21, 0x5A].as_slice()
+    );
+    assert!(rt; octets_of(&[0xF]).as_slice().is_empty());
+}

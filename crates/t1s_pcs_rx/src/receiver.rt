@@ -2,7 +2,6 @@
 ghost use Rattle.std.specs.Prelude.{◌≡◌, ◌*◌, ◌<◌, ◌≤◌, [], length, All};
 ghost use Rattle.std.specs.Borrow.{sem};
 ghost use Rattle.t1s_symbols.specs.Ranges.{IsHeard};
-ghost use Rattle.t1s_frame.specs.Arrivals.{octets_of};
 ghost use Rattle.t1s_pcs_rx.specs.Receiver.{receive_start};
 ghost use Rattle.t1s_pcs_rx.specs.Receive.{receive_event};
 ghost use Rattle.t1s_pcs_rx.specs.Views.{frame_of, kind_of};
@@ -12,11 +11,8 @@ use crate::piece::{Closer, Kind, PieceView};
 use crate::reader::Reader;
 use arrayvec::ArrayVec;
 use std::marker::Model;
-use t1s_frame::{Arrival, classify};
+use t1s_frame::{Arrival, FrameOctets, classify, octets_of};
 use t1s_symbols::{Class, Heard};
-
-/// The most octets of a frame.
-const LONGEST: usize = 1522;
 
 /// The nibbles 5, 5, D before the octets of a frame.
 const DELIMITER: usize = 3;
@@ -34,7 +30,7 @@ pub enum RxEvent<'a> {
 #[derive(Drop)]
 pub struct PcsRx {
     reader: Reader,
-    octets: ArrayVec<u8, LONGEST>,
+    octets: FrameOctets,
 }
 
 impl Model for PcsRx {
@@ -106,26 +102,13 @@ fn kind_of(closer: Closer, nibbles: &[u8]) -> Kind
 }
 
 /// Replaces the octets by those of the frame of a piece: none where its kind is not `Good`.
-fn put_frame(octets: &mut ArrayVec<u8, LONGEST>, kind: Kind, nibbles: &[u8])
+fn put_frame(octets: &mut FrameOctets, kind: Kind, nibbles: &[u8])
     requires most { length nibbles.now ≤ 3047 }
     requires ranges { All (λ n. n < 16) nibbles.now }
     ensures { octets.new.items ≡ frame_of kind nibbles.now }
 {
-    octets.clear();
     match kind {
-        Kind::Good => put_octets(octets, &nibbles[DELIMITER.min(nibbles.len())..]),
-        _ => {}
-    }
-}
-
-/// Puts the octets of nibbles, low nibble first. An odd last nibble is left out.
-fn put_octets(octets: &mut ArrayVec<u8, LONGEST>, nibbles: &[u8])
-    requires empty { octets.old.items ≡ [] }
-    requires fits { length nibbles.now ≤ 2 * LONGEST }
-    requires ranges { All (λ n. n < 16) nibbles.now }
-    ensures { octets.new.items ≡ octets_of nibbles.now }
-{
-    for i in 0..nibbles.len() / 2 {
-        octets.push(nibbles[2 * i] + 16 * nibbles[2 * i + 1]);
+        Kind::Good => *octets = octets_of(&nibbles[DELIMITER.min(nibbles.len())..]),
+        _ => octets.clear(),
     }
 }

@@ -18,8 +18,8 @@ returns-then-rest-lt-SHORTEST c =
     few_octets ns (sym c.if-not-starts_with.ensures.value) (rw (take-drop_delimiter ns) at c.if-rest-eq1.false)
     (rw (take-drop_delimiter ns) at c.if-rest-lt-SHORTEST.true)
 
-pub joined-requires-clause-ranges : goal.joined-requires-clause-ranges
-joined-requires-clause-ranges c =
+pub octets_of-requires-clause-ranges : goal.octets_of-requires-clause-ranges
+octets_of-requires-clause-ranges c =
     let ns = c.args.nibbles.now in
     rw (take-drop_delimiter ns) (All-drop (λ n. n < 16) 3 ns c.requires.ranges)
 
@@ -29,7 +29,7 @@ returns-then-not-has_check c =
     wrong_check ns (sym c.if-not-starts_with.ensures.value) (rw (take-drop_delimiter ns) at c.if-rest-eq1.false)
     (rw (take-drop_delimiter ns) at c.if-rest-lt-SHORTEST.false)
     (ap (λ xs. ends_with_check (octets_of xs)) (sym (take-drop_delimiter ns))
-    ∙ ap ends_with_check (sym (c.as_slice.ensures.value ∙ c.joined.ensures)) ∙ sym c.if-not-has_check.ensures)
+    ∙ ap ends_with_check (sym (c.as_slice.ensures.value ∙ c.octets_of.ensures)) ∙ sym c.if-not-has_check.ensures)
 
 pub returns : goal.returns
 returns c =
@@ -37,4 +37,4 @@ returns c =
     right_check ns (sym c.if-not-starts_with.ensures.value) (rw (take-drop_delimiter ns) at c.if-rest-eq1.false)
     (rw (take-drop_delimiter ns) at c.if-rest-lt-SHORTEST.false)
     (ap (λ xs. ends_with_check (octets_of xs)) (sym (take-drop_delimiter ns))
-    ∙ ap ends_with_check (sym (c.as_slice.ensures.value ∙ c.joined.ensures)) ∙ sym c.if-not-has_check.ensures)
+    ∙ ap ends_with_check (sym (c.as_slice.ensures.value ∙ c.octets_of.ensures)) ∙ sym c.if-not-has_check.ensures)

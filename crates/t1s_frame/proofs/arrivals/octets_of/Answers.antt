@@ -1,7 +1,7 @@
 use Rattle.std.proofs.Common.{◌≡◌, ◌+◌, ◌*◌, ◌/◌, ◌++◌, ◌∷◌, [], List, ℕ, get_or, length, take, ap, sym, ◌∙◌, arith}
 use Rattle.t1s_frame.specs.Arrivals.{octets_of}
 use Rattle.t1s_frame.proofs.Pieces.{octets_of-more, octets_of-pairs}
-use Rattle.t1s_capture.proofs.reader.joined.Goals as goal
+use Rattle.t1s_frame.proofs.arrivals.octets_of.Goals as goal
 
 pub loop-i-preserved : goal.loop-i-preserved
 loop-i-preserved c =

@@ -1,6 +1,6 @@
 use Rattle.std.proofs.Common.{◌≡◌, ◌*◌, length, take}
 use Rattle.t1s_frame.specs.Arrivals.{octets_of}
-use Rattle.t1s_pcs_rx.proofs.receiver.put_octets.Given as goal
+use Rattle.t1s_frame.proofs.arrivals.octets_of.Given as goal
 
 abbrev pub invariant-loop-i : goal.invariant-loop-i
 invariant-loop-i l = record {

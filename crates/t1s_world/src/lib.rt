@@ -21,3 +21,35 @@ pub fn heard_with(heard: Heard, quarter: Option<Quarter>) -> Heard
         (_, Some(_)) => Heard::Many,
     }
 }
+
+#[cfg(test)]
+mod tests {
+    use super::*;
+    use t1s_symbols::Symbol;
+
+    const BEACON: Quarter = Quarter {
+        sym: Symbol::N,
+        part: 0,
+    };
+
+    const COMMIT: Quarter = Quarter {
+        sym: Symbol::J,
+        part: 3,
+    };
+
+    #[test]
+    fn one_signal_is_heard_alone_and_two_as_many(rt: HostRuntime) {
+        let rows = [
+            (Heard::Nothing, None, Heard::Nothing),
+            (Heard::Nothing, Some(COMMIT), Heard::One(COMMIT)),
+            (Heard::One(BEACON), None, Heard::One(BEACON)),
+            (Heard::One(BEACON), Some(COMMIT), Heard::Many),
+            (Heard::One(BEACON), Some(BEACON), Heard::Many),
+            (Heard::Many, None, Heard::Many),
+            (Heard::Many, Some(COMMIT), Heard::Many),
+        ];
+        for (heard, quarter, want) in rows {
+            assert_eq!(rt; heard_with(heard, quarter), want);
+        }
+    }
+}

@@ -2,6 +2,7 @@
 
 ghost use Rattle.std.specs.Prelude.{IfSome};
 ghost use Rattle.t1s_symbols.specs.Ranges.{IsHeard, IsQuarter};
+ghost use Rattle.t1s_node.specs.Node.{IsNodeSet};
 
 use super::*;
 use plca_control::ControlSet;
@@ -29,12 +30,33 @@ const FOLLOWER: NodeSet = NodeSet {
     fall: 4,
 };
 
-/// A follower that holds nothing, with room for one frame.
-fn follower(alloc: Global) -> Result<Node, Fail> {
+/// The coordinator of two nodes, with the shortest opportunities.
+const COORDINATOR: NodeSet = NodeSet {
+    control: ControlSet {
+        id: 0,
+        count: 2,
+        to: 16,
+        burst: 0,
+    },
+    rise: 2,
+    fall: 4,
+};
+
+/// The silent ticks before the first beacon of that coordinator: 258 opportunities.
+const TICKS_BEFORE_BEACON: u16 = 4128;
+
+/// A node that holds nothing, with room for one frame.
+fn node_of(set: NodeSet, alloc: Global) -> Result<Node, Fail>
+    requires { IsNodeSet set }
+{
     let ring = FrameRing::with_room(alloc, 1)?;
     let line = DelayLine::new(alloc)?;
     let draws = PickedDraws::List(ListDraws::new(Vec::new(alloc)));
-    Ok(Node::new(FOLLOWER, ring, line, draws))
+    Ok(Node::new(set, ring, line, draws))
+}
+
+fn follower(alloc: Global) -> Result<Node, Fail> {
+    node_of(FOLLOWER, alloc)
 }
 
 fn queued(number: u16) -> Result<Queued, Fail> {
@@ -224,7 +246,7 @@ fn full_ring_refuses_an_offer(rt: HostRuntime) -> Result<(), Fail> {
 }
 
 #[test]
-fn several_signals_or_any_in_a_drive_clash(rt: HostRuntime) -> Result<(), Fail> {
+fn several_signals_clash(rt: HostRuntime) -> Result<(), Fail> {
     let mut node = follower(rt.alloc())?;
     let beacon = heard_at(0, FIRST_BEACON);
     let _ = node.drive();
@@ -233,6 +255,27 @@ fn several_signals_or_any_in_a_drive_clash(rt: HostRuntime) -> Result<(), Fail> 
     assert!(rt; !node.hear(beacon).clash);
     let _ = node.drive();
     assert!(rt; node.hear(Heard::Many).clash);
+    Ok(())
+}
+
+/// Runs a node for so many silent ticks: in how many of them it drives.
+fn run_silent(node: &mut Node, ticks: u16) -> u16 {
+    let mut driven: u16 = 0;
+    for _ in 0..ticks {
+        driven = driven.saturating_add(u16::from(node.drive().quarter.is_some()));
+        let _ = node.hear(Heard::Nothing).clash;
+    }
+    driven
+}
+
+#[test]
+fn any_signal_in_a_drive_clashes(rt: HostRuntime) -> Result<(), Fail> {
+    let mut node = node_of(COORDINATOR, rt.alloc())?;
+    assert_eq!(rt; run_silent(&mut node, TICKS_BEFORE_BEACON), 0);
+    assert!(rt; node.drive().quarter.is_some());
+    assert!(rt; node.hear(heard_at(0, FIRST_BEACON)).clash);
+    assert!(rt; node.drive().quarter.is_some());
+    assert!(rt; !node.hear(Heard::Nothing).clash);
     Ok(())
 }
 

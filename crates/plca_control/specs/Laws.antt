@@ -1,4 +1,4 @@
--- What the rest of a node relies on in every run of control.
+-- What holds in every run of control from its start.
 use Rattle.std.specs.Prelude.{◌≡◌, ◌≢◌, ℕ, ◌+◌, ◌<◌, ◌≤◌, ◌⊎◌, true, false, IsTrue}
 use Rattle.t1s_pcs_tx.specs.declared.TxCmd.TheVariants.{None as NoCmd, Beacon as BeaconCmd}
 use Rattle.plca_control.specs.declared.ControlSet.{ControlSet}

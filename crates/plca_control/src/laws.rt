@@ -1,4 +1,4 @@
-//! What the rest of a node relies on, in every run of control from its start.
+//! The laws of control: what holds in every run of its table from its start.
 
 ghost use Rattle.plca_control.specs.Laws.{CommandTellsOwn, BeaconsLastTwenty, OwnBeginsReady, HoldsUntilBegun, TransmitsUntilClosed, PausesUntilBegun, StaysInRange};
 

@@ -1,4 +1,4 @@
-//! What the rest of a node relies on, in every run of the data path from its start.
+//! The laws of the data path: what holds in every run of its table from its start.
 
 ghost use Rattle.plca_data.specs.Laws.{KeepsRanges, KeepsLineEmpty};
 

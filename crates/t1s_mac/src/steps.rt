@@ -208,16 +208,11 @@ impl Jamming {
         ensures draws { let left : Row = jamming self.nibble self.quarter self.ring attempts (D.answer draws.old (attempts + 1)) in draws.new ≡ if left.draws then D.after draws.old else draws.old }
         ensures within { IsTurn result }
     {
-        let Jamming {
-            ring,
-            nibble,
-            quarter,
-        } = self;
-        if quarter < LAST_QUARTER {
+        if self.quarter < LAST_QUARTER {
             let jamming = Jamming {
-                ring,
-                nibble,
-                quarter: quarter + 1,
+                ring: self.ring,
+                nibble: self.nibble,
+                quarter: self.quarter + 1,
             };
             return turn(
                 State::Jamming(jamming),
@@ -226,6 +221,18 @@ impl Jamming {
                 MacNote::None,
             );
         }
+        self.next_nibble(attempts, draws)
+    }
+
+    /// The end of a nibble of a jam: its next nibble, or behind the last one the drop of the frame, or its backoff.
+    fn next_nibble<D: Draws>(self, attempts: u8, draws: &mut D) -> Turn
+        requires frame { 0 < length self.ring.frames }
+        requires attempts { attempts ≤ 15 }
+        ensures row { let left : Row = jamming self.nibble 3 self.ring attempts (D.answer draws.old (attempts + 1)) in row_left result left.draws ≡ left }
+        ensures draws { let left : Row = jamming self.nibble 3 self.ring attempts (D.answer draws.old (attempts + 1)) in draws.new ≡ if left.draws then D.after draws.old else draws.old }
+        ensures within { IsTurn result }
+    {
+        let Jamming { ring, nibble, .. } = self;
         if nibble < LAST_JAM_NIBBLE {
             let jamming = Jamming {
                 ring,

@@ -19,6 +19,7 @@ struct Tally {
     jams: u16,
     drops: u16,
     sents: u16,
+    last: MacNote,
 }
 
 /// Steps a MAC so often, with carrier off and the same collision input, and adds up what it tells.
@@ -29,12 +30,16 @@ fn run<D: Draws>(mut mac: Mac<D>, steps: u16, collision: bool) -> (Mac<D>, Tally
         jams: 0,
         drops: 0,
         sents: 0,
+        last: MacNote::None,
     };
     for step in 1..=steps {
         let (next, told) = mac.step(false, collision);
         mac = next;
         if tally.first_nibble == 0 && told.out == MacOut::Nibble(5) {
             tally.first_nibble = step;
+        }
+        if told.note != MacNote::None {
+            tally.last = told.note;
         }
         match told.note {
             MacNote::None => (),
@@ -63,6 +68,7 @@ fn sixteenth_collision_drops_frame(rt: HostRuntime) -> Result<(), Fail> {
         jams: 16,
         drops: 1,
         sents: 0,
+        last: MacNote::Drop(7),
     };
     assert_eq!(rt; tally, told);
     assert_eq!(rt; mac.number(), None);

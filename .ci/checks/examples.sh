@@ -14,6 +14,8 @@ three_nodes.t1s three_nodes.txt 0 run
 two_coordinators.t1s two_coordinators.txt 0 run
 fit.t1s fit.txt 0 check
 unfit.t1s unfit.txt 0 check
+three_nodes.t1s node_2.t1sc 0 capture 2
+node_2.t1sc node_2.txt 0 decode
 beacon.t1sc beacon.txt 0 decode
 run.t1sc run.txt 0 decode
 TABLE

@@ -1,5 +1,5 @@
 // What a node hears in the run of a segment, written to a sink as a capture.
-ghost use Rattle.std.specs.Prelude.{◌≡◌, ◌<◌, ℕ, ◌++◌, IsSome, OnOk, OnErr, false};
+ghost use Rattle.std.specs.Prelude.{◌<◌, OnOk, OnErr};
 ghost use Rattle.t1s_base.specs.Causes.{HasCause};
 ghost use Rattle.t1s_base.specs.Octets.{Grows, GrowsByFront};
 ghost use Rattle.t1s_script.specs.declared.script.Script.{Script};

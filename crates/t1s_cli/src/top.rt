@@ -1,5 +1,5 @@
 // All that the program does.
-ghost use Rattle.std.specs.Prelude.{◌≡◌, ◌≢◌, ◌⊎◌, ◌↔◌, ◌^◌, ◌≤◌, ◌<◌, ℕ, List, [], length, true, Ok, Err, Some, IsOk, drop};
+ghost use Rattle.std.specs.Prelude.{◌≡◌, ◌≢◌, ◌⊎◌, ◌↔◌, ◌^◌, ◌≤◌, ◌<◌, ℕ, List, [], length, true, Ok, Some, IsOk, drop};
 ghost use Rattle.t1s_base.specs.Causes.{Rose};
 ghost use Rattle.t1s_base.specs.Octets.{Gives, Grows, GrowsByFront};
 ghost use Rattle.t1s_script.specs.Reading.{script_of};

@@ -1,5 +1,5 @@
 -- What a segment keeps tells what each node heard in the last tick, and whether it drove in it.
-use Rattle.std.proofs.Common.{◌≡◌, ℕ, zero, suc, ◌+◌, ◌<◌, ◌≤◌, inl, inr, Bool, true, false, cond, ltb, ◌==◌, ◌-◌, List, length, get_or, map, position, Option, Some, None, refl, sym, ◌∙◌, ap, arith}
+use Rattle.std.proofs.Common.{[], ◌∷◌, ◌++◌, ◌≡◌, ℕ, zero, suc, ◌+◌, ◌<◌, ◌≤◌, inl, inr, Bool, true, false, cond, ltb, ◌==◌, ◌-◌, List, length, get_or, map, position, Option, Some, None, refl, sym, ◌∙◌, ap, arith}
 use Rattle.std.specs.Option.{option_map}
 use Rattle.std.specs.Prelude.{slice_get, is_some, IfSome}
 use Rattle.std.proofs.lemmas.Bool.{cases_lt, ltb-true}
@@ -14,23 +14,22 @@ use Rattle.t1s_pcs_tx.specs.declared.TxCmd.{TxCmd}
 use Rattle.t1s_pcs_tx.specs.declared.TxCmd.TheVariants.{None as NoCmd, Beacon, Commit}
 use Rattle.t1s_world.specs.Hearing.{heard}
 use Rattle.t1s_world.specs.World.{heard_at, at_depth}
-use Rattle.t1s_world.proofs.HearingLemmas.{heard_same, heard_in_range}
+use Rattle.t1s_world.proofs.HearingLemmas.{heard_in_range}
 use Rattle.t1s_world.proofs.ListLemmas.{slice_get-map, get_or-map, position-map}
 use Rattle.t1s_world.proofs.WorldLemmas.{past-zero, kept_next, driven_is, driven_past, at_depth-within, at_depth-before, length-nodes, past_keeps}
-use Rattle.t1s_script.specs.Script.{IsScript}
 use Rattle.t1s_script.specs.declared.script.Script.{Script}
 use Rattle.t1s_script.specs.declared.script.NodeLine.{NodeLine}
 use Rattle.t1s_segment.specs.declared.track.Track.{Track}
 use Rattle.t1s_segment.specs.declared.transmitter.Transmitter.{Transmitter}
 use Rattle.t1s_segment.specs.declared.transmitter.Transmitter.TheVariants.{Quiet, Beaconing, Committing}
-use Rattle.t1s_segment.specs.Rings.{kept_tick, ring_at}
 use Rattle.t1s_segment.specs.Stands.{Stands}
-use Rattle.t1s_segment.specs.State.{SegmentState}
+use Rattle.t1s_segment.specs.State.{SegmentState, kept_tick}
 use Rattle.t1s_segment.specs.Track.{drive_track, hear_track, track_machine}
 use Rattle.t1s_segment.specs.Transmitter.{chosen, quarter_of, transmitter_step}
 use Rattle.t1s_segment.specs.World.{world, places_of, first_track, first_tracks, driven_in, position_of, start_of, heard_in, tick_in, heard_by, last_heard}
 use Rattle.t1s_segment.proofs.Silents.{drive_before, drive_cases, drive_started, hear_cases}
-use Rattle.t1s_segment.proofs.TickSteps.{ring_at_is}
+use Rattle.t1s_cable.specs.Stands.{no_puts}
+use Rattle.t1s_cable.proofs.Histories.{at_depth_same}
 
 -- neither phase of a tick changes a node's number or start, and the hear phase not whether it drives
 drive_no : (t : ℕ) (k : Track) → (drive_track t k).0.no ≡ k.no
@@ -208,30 +207,16 @@ module _ (s : Script) where
   last_heard_in_range zero node = tt
   last_heard_in_range (suc t) node = heard_by_in_range t node
 
-  -- no place is as far away as the rings are long
-  near : IsScript s → (k : ℕ) → get_or (places_of s) k 0 < 256
-  near valid k = elim (slice_get_cases s.nodes k).1 [
-    | inl found ↦
-        let high = rw found.3 at (valid.nodes k found.0 found.1) in
-        let at = get_or-map (λ (n : NodeLine). n.place) s.nodes k found.0 0 found.2 in
-        omega (arith, high.place_high, at)
-    | inr past ↦
-        let at = get_or_past (places_of s) k 0 (omega (arith, past.0, length-map s.nodes (λ (n : NodeLine). n.place))) in
-        omega (arith, at)
-  ]
+module _ (s : Script) (t : ℕ) (g : SegmentState) (stands : Stands s (suc t) g) where
+  -- what the cable stands for: all that was driven, and a tick before the first, in which nothing was put
+  abbrev pub history : List (List (Option Quarter))
+  history = (world s (suc t)).rows ++ no_puts (places_of s) ∷ []
 
-module _ (s : Script) (t : ℕ) (g : SegmentState) (stands : Stands s (suc t) g) (sizes : length g.rings ≡ length g.places) where
-  -- after tick t the rings tell what a node heard in it
-  heard_is : (j : ℕ) → heard (ring_at g.rings) g.places j ≡ heard_at track_machine (places_of s) (first_tracks s) t j
-  heard_is j =
-      let rows : List (List (Option Quarter)) = (world s (suc t)).rows in
-      let places_near = rw (sym stands.places) at (near s stands.valid) in
-      let same = heard_same 256 (ring_at g.rings) (at_depth rows) g.places
-      (λ i d lt close. ring_at_is 256 g.rings rows stands.rings i d (omega (arith, sizes)) close)
-      places_near j in
-      same ∙ ap (λ (places : List ℕ). heard (at_depth rows) places j) stands.places
+  -- after tick t it tells what a node heard in it
+  heard_is : (j : ℕ) → heard (at_depth history) g.cable.places j ≡ heard_at track_machine (places_of s) (first_tracks s) t j
+  heard_is j = rw (at_depth_same (places_of s) (world s (suc t)).rows, stands.places) refl
 
-  kept_tick_is : (j : ℕ) → kept_tick g.nodes g.places g.rings t j ≡ tick_in s j t
+  kept_tick_is : (j : ℕ) → kept_tick g.nodes (heard (at_depth history) g.cable.places) t j ≡ tick_in s j t
   unfolding heard_in
   kept_tick_is j =
       rw (stands.nodes, starts_are s (suc t), driving_is s t j, heard_is j)
@@ -247,14 +232,14 @@ module _ (s : Script) (t : ℕ) (g : SegmentState) (stands : Stands s (suc t) g)
       go true e = rw (driven_before s t j (ltb-true t (start_of s j) e)) refl
       go false e = refl
 
-  pub heard_by_is : (node : ℕ) → option_map (kept_tick g.nodes g.places g.rings t) (position (λ (k : Track). k.no == node) g.nodes) ≡ heard_by s node t
+  pub heard_by_is : (node : ℕ) → option_map (kept_tick g.nodes (heard (at_depth history) g.cable.places) t) (position (λ (k : Track). k.no == node) g.nodes) ≡ heard_by s node t
   heard_by_is node =
-      let tell : ℕ → Heard × Bool = kept_tick g.nodes g.places g.rings t in
+      let tell : ℕ → Heard × Bool = kept_tick g.nodes (heard (at_depth history) g.cable.places) t in
       ap (λ (ns : List Track). option_map tell (position (λ (k : Track). k.no == node) ns)) stands.nodes
       ∙ (ap (option_map tell) (position_is s (suc t) node) ∙ option_map_same tell (λ j. tick_in s j t) kept_tick_is (position_of s node))
 
 -- once a tick was played, the same of the last one
-pub last_heard_is : (s : Script) (t : ℕ) (g : SegmentState) (node : ℕ) → Stands s t g → length g.rings ≡ length g.places → 0 < g.tick → option_map (kept_tick g.nodes g.places g.rings (g.tick - 1)) (position (λ (k : Track). k.no == node) g.nodes) ≡ last_heard s node t
-last_heard_is s t g node stands sizes played =
+pub last_heard_is : (s : Script) (t : ℕ) (g : SegmentState) (node : ℕ) → Stands s t g → 0 < g.tick → option_map (kept_tick g.nodes (heard (at_depth ((world s t).rows ++ no_puts (places_of s) ∷ [])) g.cable.places) (g.tick - 1)) (position (λ (k : Track). k.no == node) g.nodes) ≡ last_heard s node t
+last_heard_is s t g node stands played =
     let later : t ≡ suc (g.tick - 1) = omega (arith, stands.tick) in
-    rw later (heard_by_is s (g.tick - 1) g (rw later at stands) sizes node)
+    rw later (heard_by_is s (g.tick - 1) g (rw later at stands) node)

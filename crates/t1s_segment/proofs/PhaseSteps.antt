@@ -1,19 +1,18 @@
--- Steps of the loops of a tick: one more node drives, one more node hears.
-use Rattle.std.proofs.Common.{◌≡◌, ℕ, ◌+◌, ◌<◌, List, [], ◌∷◌, ◌++◌, length, get_or, set, take, drop, Option, ◌∙◌, ap, arith}
-use Rattle.std.proofs.lemmas.List.{append-nil, length-map, length-take-le, map_push, take_more}
+-- Steps of the loops of a tick: one more node drives and puts it on the cable, one more node hears.
+use Rattle.std.proofs.Common.{◌≡◌, ℕ, ◌+◌, ◌<◌, ◌≤◌, List, [], ◌∷◌, ◌++◌, length, get_or, set, take, drop, Option, None, refl, ◌∙◌, ap, arith}
+use Rattle.std.proofs.lemmas.List.{append-nil, drop_all, length-map, length-take-le, length-replicate, map_push, take_all, take_more}
 use Rattle.std.proofs.lemmas.List.Concat.{flat_map-append}
 use Rattle.std.proofs.lemmas.List.Edits.{map_over_more}
 use Rattle.t1s_symbols.specs.declared.Heard.{Heard}
 use Rattle.t1s_symbols.specs.declared.Quarter.{Quarter}
 use Rattle.t1s_world.specs.Lists.{each_with}
 use Rattle.t1s_world.specs.World.{after_drive, driven_by, row_of, after_hear, sensed_by}
-use Rattle.t1s_world.proofs.ListLemmas.{get_or-unwritten, each_with_more}
+use Rattle.t1s_world.proofs.ListLemmas.{get_or-unwritten, each_with_more, written_more}
 use Rattle.t1s_world.proofs.WorldLemmas.{length-sensed_by, sensed_by_more}
-use Rattle.circular_buffer.specs.Buffer.{Buffer}
+use Rattle.t1s_cable.specs.Stands.{no_puts}
 use Rattle.t1s_segment.specs.declared.track.Track.{Track}
 use Rattle.t1s_segment.specs.declared.totals.NodeTotals.{NodeTotals}
 use Rattle.t1s_segment.specs.Told.{Told}
-use Rattle.t1s_segment.specs.Rings.{pushed}
 use Rattle.t1s_segment.specs.Track.{Happened, Sensed, drive_track, hear_track, track_machine}
 use Rattle.t1s_segment.specs.World.{after_sensed, events_of}
 
@@ -40,11 +39,26 @@ module _ (t : ℕ) (xs ys : List Track) (i : ℕ) (x : Track) (lt : i < length x
       (flat_map-append events (driven_by track_machine t (take i xs)) (happened x ∷ [])
       ∙ ap (λ (r : List Told). events_of t (take i xs) ++ r) (append-nil (events (happened x))))
 
-  pub rings_more : (bs cs : List (Buffer (Option Quarter))) (b : Buffer (Option Quarter)) → length bs ≡ length xs → cs ≡ each_with pushed (take i bs) (row_of track_machine t (take i xs)) ++ drop i bs → b ≡ get_or cs i b → set cs i (pushed b (drive_track t x).1.quarter) ≡ each_with pushed (take (i + 1) bs) (row_of track_machine t (take (i + 1) xs)) ++ drop (i + 1) bs
-  rings_more bs cs b sizes e at =
-      let row : List (Option Quarter) = row_of track_machine t (take i xs) in
-      let sized : length row ≡ i = length-map (take i xs) (λ n. (drive_track t n).1.quarter) ∙ length-take-le i xs (omega arith) in
-      rw row_more (each_with_more pushed bs cs row i b (drive_track t x).1.quarter (omega arith) sized e at)
+  -- the row of the cable where the nodes below i have put what they drive
+  module _ (places : List ℕ) (sizes : length places ≡ length xs) where
+    row_len : length (row_of track_machine t (take i xs)) ≡ i
+    row_len = length-map (take i xs) (λ n. (drive_track t n).1.quarter) ∙ length-take-le i xs (omega arith)
+
+    puts_len : length (no_puts places) ≡ length places
+    puts_len = length-replicate (length places) None
+
+    pub put_more : set (row_of track_machine t (take i xs) ++ drop i (no_puts places)) i (drive_track t x).1.quarter ≡ row_of track_machine t (take (i + 1) xs) ++ drop (i + 1) (no_puts places)
+    put_more =
+        let row : List (Option Quarter) = row_of track_machine t (take i xs) in
+        rw row_more
+        (written_more row (no_puts places) (row ++ drop i (no_puts places)) i (drive_track t x).1.quarter None row_len (omega (arith, puts_len, sizes)) refl)
+
+-- once all nodes have put what they drive, the row is that of the tick
+pub all_put : (t : ℕ) (xs : List Track) (places : List ℕ) (i : ℕ) → length places ≡ length xs → length xs ≤ i → row_of track_machine t (take i xs) ++ drop i (no_puts places) ≡ row_of track_machine t xs
+all_put t xs places i sizes past =
+    let none : Option Quarter = None in
+    let left : length (no_puts places) ≤ i = omega (arith, length-replicate (length places) none, sizes) in
+    rw (take_all i xs past, drop_all i (no_puts places) left) (append-nil (row_of track_machine t xs))
 
 -- one more node hears, and its clash is counted
 pub totals_more : (t : ℕ) (h : ℕ → Heard) (xs ys : List Track) (ns ms : List NodeTotals) (i : ℕ) (x : Track) (n : NodeTotals) → i < length xs → length ns ≡ length xs → ys ≡ after_hear track_machine t h 0 (take i xs) ++ drop i xs → x ≡ get_or ys i x → ms ≡ each_with after_sensed (take i ns) (sensed_by track_machine t h 0 (take i xs)) ++ drop i ns → n ≡ get_or ms i n → set ms i (after_sensed n (hear_track t (h i) x).1) ≡ each_with after_sensed (take (i + 1) ns) (sensed_by track_machine t h 0 (take (i + 1) xs)) ++ drop (i + 1) ns

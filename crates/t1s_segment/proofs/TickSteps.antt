@@ -1,51 +1,26 @@
 -- A segment stands for its script at its start, and one tick later.
-use Rattle.std.proofs.Common.{◌≡◌, ℕ, zero, suc, ◌+◌, ◌-◌, ◌^◌, ◌<◌, min, List, [], ◌∷◌, length, get_or, map, take, replicate, Bool, true, false, cond, Option, None, refl, sym, ◌∙◌, ap, arith, add-one, add-zero, zero-add}
-use Rattle.std.proofs.lemmas.List.{length-map, get_or-take, take-take, get_or-replicate, length-replicate}
+use Rattle.std.proofs.Common.{◌++◌, ◌≡◌, ℕ, suc, ◌+◌, ◌-◌, ◌^◌, ◌<◌, min, List, [], ◌∷◌, length, get_or, map, Bool, true, false, cond, Option, None, refl, sym, ◌∙◌, ap, arith, add-one, add-zero, zero-add}
+use Rattle.std.proofs.lemmas.List.{length-map}
 use Rattle.t1s_symbols.specs.declared.Heard.{Heard}
 use Rattle.t1s_symbols.specs.declared.Quarter.{Quarter}
 use Rattle.t1s_world.specs.Hearing.{heard}
 use Rattle.t1s_world.specs.Lists.{each_with}
 use Rattle.t1s_world.specs.Telling.{count_below}
 use Rattle.t1s_world.specs.World.{Past, at_depth, after_drive, after_hear, after_tick, row_of, sensed_by}
-use Rattle.t1s_world.proofs.HearingLemmas.{heard_same}
-use Rattle.t1s_world.proofs.ListLemmas.{length-each_with, get_or-each_with}
 use Rattle.t1s_world.proofs.TellingLemmas.{first_below-zero, first_below-more, count_below-zero, count_below-more, count_below-le}
-use Rattle.t1s_world.proofs.WorldLemmas.{past-suc, past-zero, after_hear_same, sensed_by_same, length-sensed_by, length-nodes}
-use Rattle.circular_buffer.specs.Buffer.{Buffer, buffer}
+use Rattle.t1s_world.proofs.WorldLemmas.{past-suc, past-zero, length-sensed_by, length-nodes}
+use Rattle.t1s_cable.specs.Stands.{Stands as CableStands, no_puts}
+use Rattle.t1s_cable.proofs.Histories.{at_depth_same}
 use Rattle.t1s_script.specs.Script.{IsScript}
 use Rattle.t1s_script.specs.declared.script.Script.{Script}
 use Rattle.t1s_script.specs.declared.script.NodeLine.{NodeLine}
 use Rattle.t1s_segment.specs.declared.track.Track.{Track}
 use Rattle.t1s_segment.specs.declared.totals.NodeTotals.{NodeTotals}
-use Rattle.t1s_segment.specs.Rings.{pushed, ring_at}
 use Rattle.t1s_segment.specs.State.{SegmentState, settled_after}
-use Rattle.t1s_segment.specs.Stands.{Stands, KeepsRows, column, ticks_left}
+use Rattle.t1s_segment.specs.Stands.{Stands, ticks_left}
 use Rattle.t1s_segment.specs.Totals.{totals_with, no_totals}
 use Rattle.t1s_segment.specs.Track.{Sensed, track_machine}
 use Rattle.t1s_segment.specs.World.{world, places_of, first_track, first_tracks, all_ok, all_ok_at, settled_below, clashes_at, clash_at, totals_from, totals_below, after_sensed}
-
-column_at : (i : ℕ) (rows : List (List (Option Quarter))) (d : ℕ) → get_or (column i rows) d None ≡ at_depth rows i d
-column_at i [] d = refl
-column_at i (row ∷ rows) zero = refl
-column_at i (row ∷ rows) (suc d) = column_at i rows d
-
--- rings of a room tell what was driven as far back as the room goes
-module _ (room : ℕ) where
-  take_newest : (q : Option Quarter) (c : List (Option Quarter)) → take (suc room) (q ∷ take (suc room) c) ≡ take (suc room) (q ∷ c)
-  take_newest q c = ap (λ (r : List (Option Quarter)). q ∷ r) (take-take room (suc room) c (omega arith))
-
-  pub ring_at_is : (rings : List (Buffer (Option Quarter))) (rows : List (List (Option Quarter))) → KeepsRows room rings rows → (i d : ℕ) → i < length rings → d < room → ring_at rings i d ≡ at_depth rows i d
-  ring_at_is rings rows keeps i d h near = rw (keeps i h, get_or-take room (column i rows) d None near) (column_at i rows d)
-
-  KeepsRows-pushed : (rings : List (Buffer (Option Quarter))) (rows : List (List (Option Quarter))) (row : List (Option Quarter)) → length row ≡ length rings → KeepsRows (suc room) rings rows → KeepsRows (suc room) (each_with pushed rings row) (row ∷ rows)
-  KeepsRows-pushed rings rows row e keeps i h =
-      let lt : i < length rings = omega (arith, length-each_with pushed rings row) in
-      rw (get_or-each_with pushed rings row i (buffer [] 0) None lt e, keeps i lt, take_newest (get_or row i None) (column i rows)) refl
-
-KeepsRows-none : (n : ℕ) (rings : List (Buffer (Option Quarter))) → rings ≡ replicate n (buffer [] 256) → KeepsRows 256 rings []
-KeepsRows-none n rings e i h =
-    let lt : i < n = omega (arith, simp length-replicate at (ap length e)) in
-    rw (e, get_or-replicate n i (buffer [] 256) (buffer [] 0) lt) refl
 
 -- the totals of nodes that count as many clashes, and of nodes that count one tick more
 totals_from_same : (f g : ℕ → ℕ) → ((i : ℕ) → f i ≡ g i) → (i : ℕ) (ns : List NodeLine) → totals_from f i ns ≡ totals_from g i ns
@@ -81,8 +56,8 @@ module _ (s : Script) where
   totals-zero = sym (totals_from_none 0 s.nodes ∙ totals_from_same (λ _. 0) (λ i. count_below (clash_at s i) 0) (λ i. sym (count_below-zero (clash_at s i))) 0 s.nodes)
 
 -- a new segment stands for its script at tick 0
-pub stands_first : (s : Script) (g : SegmentState) (n : ℕ) → IsScript s → g.tick ≡ 0 → g.end ≡ s.end → g.settled ≡ None → g.places ≡ places_of s → g.nodes ≡ first_tracks s → g.rings ≡ replicate n (buffer [] 256) → g.totals ≡ map (λ (n : NodeLine). no_totals n.no) s.nodes → Stands s 0 g
-stands_first s g n valid tick end settled places nodes rings totals =
+pub stands_first : (s : Script) (g : SegmentState) → IsScript s → g.tick ≡ 0 → g.end ≡ s.end → g.settled ≡ None → g.cable.places ≡ places_of s → g.nodes ≡ first_tracks s → CableStands (no_puts (places_of s) ∷ []) g.cable → g.totals ≡ map (λ (n : NodeLine). no_totals n.no) s.nodes → Stands s 0 g
+stands_first s g valid tick end settled places nodes cable totals =
     let start = past-zero track_machine (places_of s) (first_tracks s) in
     record {
       valid = valid;
@@ -91,7 +66,7 @@ stands_first s g n valid tick end settled places nodes rings totals =
       end = end;
       places = places;
       nodes = rw start nodes;
-      rings = rw start (KeepsRows-none n g.rings rings);
+      cable = rw start cable;
       settled = rw (settled-zero s) settled;
       totals = rw (totals-zero s) totals;
     }
@@ -109,62 +84,51 @@ module _ (s : Script) (t : ℕ) where
       (λ k. omega (arith, count_below-le (clash_at s k) t)) sizes
       (λ k h. rw (zero-add, ← is) (count_below-more (clash_at s k) t)))
 
-  clashes_are : (h : ℕ → Heard) → ((j : ℕ) → heard (at_depth (world s (suc t)).rows) (places_of s) j ≡ h j) → clashes_at s t ≡ map (λ (d : Sensed). d.clash) (sensed_by track_machine t h 0 (after_drive track_machine t (world s t).nodes))
+  clashes_are : clashes_at s t ≡ map (λ (d : Sensed). d.clash) (sensed_by track_machine t (heard (at_depth (world s (suc t)).rows) (places_of s)) 0 (after_drive track_machine t (world s t).nodes))
   unfolding clashes_at
-  clashes_are h same =
-      ap (λ (ds : List Sensed). map (λ (d : Sensed). d.clash) ds)
-      (sensed_by_same track_machine t (heard (at_depth (world s (suc t)).rows) (places_of s)) h same 0 (after_drive track_machine t (world s t).nodes))
+  clashes_are = refl
 
--- what one tick leaves of a segment, field by field
+-- what one tick leaves of a segment, field by field. The cable's history has one row more
 pub record Ticked (g h : SegmentState) : Type 0 where
   pub tick : h.tick ≡ g.tick + 1
   pub end : h.end ≡ g.end
-  pub places : h.places ≡ g.places
-  pub rings : h.rings ≡ each_with pushed g.rings (row_of track_machine g.tick g.nodes)
-  pub nodes : h.nodes ≡ after_hear track_machine g.tick (heard (ring_at h.rings) g.places) 0 (after_drive track_machine g.tick g.nodes)
+  pub places : h.cable.places ≡ g.cable.places
+  pub cable : (rows : List (List (Option Quarter))) → CableStands rows g.cable → CableStands (row_of track_machine g.tick g.nodes ∷ rows) h.cable
+  pub nodes : (rows : List (List (Option Quarter))) → CableStands rows h.cable → h.nodes ≡ after_hear track_machine g.tick (heard (at_depth rows) g.cable.places) 0 (after_drive track_machine g.tick g.nodes)
   pub settled : h.settled ≡ settled_after g.settled g.tick (all_ok (after_drive track_machine g.tick g.nodes))
-  pub totals : h.totals ≡ each_with after_sensed g.totals (sensed_by track_machine g.tick (heard (ring_at h.rings) g.places) 0 (after_drive track_machine g.tick g.nodes))
+  pub totals : (rows : List (List (Option Quarter))) → CableStands rows h.cable → h.totals ≡ each_with after_sensed g.totals (sensed_by track_machine g.tick (heard (at_depth rows) g.cable.places) 0 (after_drive track_machine g.tick g.nodes))
 
--- what a segment holds of itself before a tick
-pub record CanTick (g : SegmentState) : Type 0 where
-  pub left : g.tick < g.end
-  pub fits : g.tick < 2 ^ 64 - 1
-  pub nodes_len : length g.nodes ≡ length g.places
-  pub rings_len : length g.rings ≡ length g.places
-  pub near : (k : ℕ) → get_or g.places k 0 < 256
-
-pub stands_next : (s : Script) (t : ℕ) (g h : SegmentState) → Stands s t g → CanTick g → Ticked g h → Stands s (t + 1) h
-stands_next s t g h stands can ticked =
+pub stands_next : (s : Script) (t : ℕ) (g h : SegmentState) → Stands s t g → g.tick < g.end → g.tick < 2 ^ 64 - 1 → Ticked g h → Stands s (t + 1) h
+stands_next s t g h stands left fits ticked =
+    let places : List ℕ = places_of s in
     let old : List (List (Option Quarter)) = (world s t).rows in
-    let driven : List Track = after_drive track_machine g.tick g.nodes in
-    let row : List (Option Quarter) = row_of track_machine g.tick g.nodes in
-    let rows : List (List (Option Quarter)) = row ∷ old in
-    let row_len : length row ≡ length g.rings = length-map g.nodes (λ n. (track_machine.drive g.tick n).1.quarter) ∙ (can.nodes_len ∙ sym can.rings_len) in
-    let keeps : KeepsRows 256 h.rings rows = rw ticked.rings (KeepsRows-pushed 255 g.rings old row row_len stands.rings) in
-    let len : length h.rings ≡ length g.places = rw ticked.rings (length-each_with pushed g.rings row ∙ can.rings_len) in
-    let hears : (j : ℕ) → heard (ring_at h.rings) g.places j ≡ heard (at_depth rows) g.places j =
-    heard_same 256 (ring_at h.rings) (at_depth rows) g.places (λ i d lt close. ring_at_is 256 h.rings rows keeps i d (omega arith) close) can.near in
-    let later : world s (suc t) ≡ after_tick track_machine g.places g.tick (record { nodes = g.nodes; rows = old }) =
-    rw (stands.tick, stands.nodes, stands.places) (past-suc track_machine (places_of s) (first_tracks s) t) in
-    let next : world s (t + 1) ≡ after_tick track_machine g.places g.tick (record { nodes = g.nodes; rows = old }) = rw add-one later in
+    let rows : List (List (Option Quarter)) = row_of track_machine g.tick g.nodes ∷ old in
+    let history : List (List (Option Quarter)) = rows ++ no_puts places ∷ [] in
+    let keeps : CableStands history h.cable = ticked.cable (old ++ no_puts places ∷ []) stands.cable in
+    let same : at_depth history ≡ at_depth rows = at_depth_same places rows in
+    let hears : ℕ → Heard = heard (at_depth rows) g.cable.places in
+    let later : world s (suc t) ≡ after_tick track_machine g.cable.places g.tick (record { nodes = g.nodes; rows = old }) =
+    rw (stands.tick, stands.nodes, stands.places) (past-suc track_machine places (first_tracks s) t) in
+    let next : world s (t + 1) ≡ after_tick track_machine g.cable.places g.tick (record { nodes = g.nodes; rows = old }) = rw add-one later in
     let nodes : List Track = after_drive track_machine t (world s t).nodes in
-    let h_of : ℕ → Heard = heard (ring_at h.rings) (places_of s) in
+    let h_of : ℕ → Heard = heard (at_depth rows) places in
     let ds : List Sensed = sensed_by track_machine t h_of 0 nodes in
     let sizes : length ds ≡ length s.nodes =
-    length-sensed_by track_machine t h_of 0 nodes ∙ (length-map (world s t).nodes (λ n. (track_machine.drive t n).0) ∙ (length-nodes track_machine (places_of s) (first_tracks s) t ∙ length-map s.nodes (first_track s))) in
+    length-sensed_by track_machine t h_of 0 nodes ∙ (length-map (world s t).nodes (λ n. (track_machine.drive t n).0) ∙ (length-nodes track_machine places (first_tracks s) t ∙ length-map s.nodes (first_track s))) in
     let rows_are : (world s (suc t)).rows ≡ rows = ap (λ (p : Past Track). p.rows) later in
-    let hears_there : (j : ℕ) → heard (ring_at h.rings) (places_of s) j ≡ heard (at_depth rows) (places_of s) j = λ j. rw stands.places at (hears j) in
-    let is = clashes_are s t h_of (λ j. rw rows_are (sym (hears_there j))) in
+    let is = rw rows_are at (clashes_are s t) in
+    let heard_nodes : h.nodes ≡ after_hear track_machine g.tick hears 0 (after_drive track_machine g.tick g.nodes) = rw same at (ticked.nodes history keeps) in
+    let heard_totals : h.totals ≡ each_with after_sensed g.totals (sensed_by track_machine g.tick hears 0 (after_drive track_machine g.tick g.nodes)) = rw same at (ticked.totals history keeps) in
     record {
       valid = stands.valid;
-      in_time = omega (arith, stands.tick, stands.end, can.left);
+      in_time = omega (arith, stands.tick, stands.end, left);
       tick = ticked.tick ∙ ap (λ (n : ℕ). n + 1) stands.tick;
       end = ticked.end ∙ stands.end;
       places = ticked.places ∙ stands.places;
-      nodes = rw next (ticked.nodes ∙ after_hear_same track_machine g.tick (heard (ring_at h.rings) g.places) (heard (at_depth rows) g.places) hears 0 driven);
-      rings = rw next keeps;
+      nodes = rw next heard_nodes;
+      cable = rw next keeps;
       settled = rw (settled-more s t, ticked.settled, stands.settled, stands.tick, stands.nodes) refl;
-      totals = rw (totals-more s t ds (omega (arith, can.fits, stands.tick)) is sizes, ticked.totals, stands.totals, stands.tick, stands.nodes, stands.places) refl;
+      totals = rw (totals-more s t ds (omega (arith, fits, stands.tick)) is sizes, heard_totals, stands.totals, stands.tick, stands.nodes, stands.places) refl;
     }
 
 pub stands_end : (s : Script) (t : ℕ) (g : SegmentState) → Stands s t g → ticks_left g ≡ 0 → t ≡ s.end

@@ -7,7 +7,6 @@ pub mod Told
 pub mod Totals
 pub mod Track
 pub mod World
-pub mod Rings
 pub mod State
 pub mod Stands
 pub mod Beacons

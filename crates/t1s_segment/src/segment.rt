@@ -1,14 +1,13 @@
-ghost use Rattle.std.specs.Prelude.{◌≡◌, IfOk, []};
-ghost use Rattle.circular_buffer.specs.Buffer.{buffer};
+ghost use Rattle.std.specs.Prelude.{◌≡◌};
 ghost use Rattle.t1s_segment.specs.State.{settled_after};
 
-use crate::phases::{HISTORY, Ring, all_ok, drive_all, hear_all, kept_tick};
+use crate::phases::{all_ok, drive_all, hear_all, kept_tick};
 use crate::totals::{NodeTotals, totals_of};
 use crate::track::{Track, position_of};
 use crate::watch::Watch;
-use circular_buffer::HeapCircularBuffer;
 use std::alloc::{AllocError, Global};
 use std::marker::Model;
+use t1s_cable::Cable;
 use t1s_script::Script;
 use t1s_symbols::Heard;
 
@@ -18,9 +17,8 @@ pub struct Segment {
     tick: u64,
     end: u64,
     settled: Option<u64>,
-    places: Vec<u8>,
     tracks: Vec<Track>,
-    rings: Vec<Ring>,
+    cable: Cable,
     totals: Vec<NodeTotals>,
 }
 
@@ -34,25 +32,17 @@ impl Model for Segment {
       tick = g.tick;
       end = g.end;
       settled = g.settled;
-      places = g.places.items;
       nodes = g.tracks.items;
-      rings = g.rings.items;
+      cable = g.cable;
       totals = g.totals.items;
     } };
 
     ghost invariant = { λ g. record {
       in_time : g.tick ≤ g.end;
-      tracks_len : length g.tracks.items ≡ length g.places.items;
-      rings_len : length g.rings.items ≡ length g.places.items;
-      totals_len : length g.totals.items ≡ length g.places.items;
+      few : length g.cable.places ≤ 16;
+      tracks_len : length g.tracks.items ≡ length g.cable.places;
+      totals_len : length g.totals.items ≡ length g.cable.places;
     } };
-}
-
-/// A ring with room for the longest cable.
-fn new_ring(alloc: Global) -> Result<Ring, AllocError>
-    ensures { IfOk result (λ r. r ≡ buffer [] 256) }
-{
-    HeapCircularBuffer::with_capacity(alloc, HISTORY)
 }
 
 /// The first tick in which every status was OK, after one more tick.
@@ -83,21 +73,19 @@ impl Segment {
         let lines = s.nodes.as_slice();
         let mut places = Vec::with_capacity(alloc, lines.len())?;
         let mut tracks = Vec::with_capacity(alloc, lines.len())?;
-        let mut rings = Vec::with_capacity(alloc, lines.len())?;
         let mut totals = Vec::with_capacity(alloc, lines.len())?;
         for line in lines {
             places.push(line.place)?;
             tracks.push(Track::first(s, line))?;
-            rings.push(new_ring(alloc)?)?;
             totals.push(NodeTotals::new(line.no))?;
         }
+        let cable = Cable::new(alloc, places.as_slice())?;
         Ok(Segment {
             tick: 0,
             end: s.end,
             settled: None,
-            places,
             tracks,
-            rings,
+            cable,
             totals,
         })
     }
@@ -125,19 +113,14 @@ impl Segment {
         ensures told { (s : Script) (t : ℕ) → Stands s t self.old → AreTold W.sees watch.old (events_at s t) watch.new }
     {
         let tick = self.tick;
-        drive_all(
-            self.tracks.as_mut_slice(),
-            self.rings.as_mut_slice(),
-            tick,
-            watch,
-        );
+        self.cable.turn();
+        drive_all(self.tracks.as_mut_slice(), &mut self.cable, tick, watch);
         let ok = all_ok(self.tracks.as_slice());
         self.settled = settled_after(self.settled, tick, ok);
         hear_all(
             self.tracks.as_mut_slice(),
             self.totals.as_mut_slice(),
-            self.places.as_slice(),
-            self.rings.as_slice(),
+            &self.cable,
             tick,
         );
         self.tick = tick + 1;
@@ -155,13 +138,7 @@ impl Segment {
         }
         let tracks = self.tracks.as_slice();
         let j = position_of(tracks, node)?;
-        Some(kept_tick(
-            tracks,
-            self.places.as_slice(),
-            self.rings.as_slice(),
-            self.tick - 1,
-            j,
-        ))
+        Some(kept_tick(tracks, &self.cable, self.tick - 1, j))
     }
 
     /// The first tick in which every node's status was OK. None where there was none so far.

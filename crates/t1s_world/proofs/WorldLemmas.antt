@@ -8,20 +8,6 @@ use Rattle.t1s_world.proofs.ListLemmas.{slice_get-map, get_or-map, written_more,
 use Rattle.t1s_world.specs.World.{Machine, past, at_depth, after_drive, row_of, after_hear, sensed_by, after_tick, driven_at, heard_at}
 
 module _ {Kept Driven Sensed : Type 0} (m : Machine Kept Driven Sensed) (t : ℕ) where
-  pub after_hear_same : (h k : ℕ → Heard) → ((j : ℕ) → h j ≡ k j) → (j : ℕ) (ns : List Kept) → after_hear m t h j ns ≡ after_hear m t k j ns
-  after_hear_same h k same j [] = refl
-  after_hear_same h k same j (n ∷ ns) =
-      let e = same j in
-      let rest = after_hear_same h k same (j + 1) ns in
-      rw (e, rest) refl
-
-  pub sensed_by_same : (h k : ℕ → Heard) → ((j : ℕ) → h j ≡ k j) → (j : ℕ) (ns : List Kept) → sensed_by m t h j ns ≡ sensed_by m t k j ns
-  sensed_by_same h k same j [] = refl
-  sensed_by_same h k same j (n ∷ ns) =
-      let e = same j in
-      let rest = sensed_by_same h k same (j + 1) ns in
-      rw (e, rest) refl
-
   module _ (h : ℕ → Heard) where
     pub length-after_hear : (s : ℕ) (ns : List Kept) → length (after_hear m t h s ns) ≡ length ns
     length-after_hear s [] = refl

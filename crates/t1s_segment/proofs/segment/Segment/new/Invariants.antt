@@ -1,5 +1,4 @@
-use Rattle.std.proofs.Common.{◌≡◌, take, map, [], replicate}
-use Rattle.circular_buffer.specs.Buffer.{buffer}
+use Rattle.std.proofs.Common.{◌≡◌, take, map}
 use Rattle.t1s_script.specs.declared.script.NodeLine.{NodeLine}
 use Rattle.t1s_segment.specs.Totals.{no_totals}
 use Rattle.t1s_segment.specs.World.{first_track}
@@ -10,6 +9,5 @@ invariant-loop-line l =
     record {
       places : l.places.items ≡ map (λ (n : NodeLine). n.place) (take l.line-index l.lines);
       tracks : l.tracks.items ≡ map (first_track l.s) (take l.line-index l.lines);
-      rings : l.rings.items ≡ replicate l.line-index (buffer [] 256);
       totals : l.totals.items ≡ map (λ (n : NodeLine). no_totals n.no) (take l.line-index l.lines);
     }

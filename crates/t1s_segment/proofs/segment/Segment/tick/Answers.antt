@@ -14,30 +14,20 @@ returns-clause-told g c s t stands =
 pub returns-clause-stands : goal.returns-clause-stands
 returns-clause-stands g c s t stands =
     let old = c.self.inside in
-    let inv = c.self.invariant in
     let before = rw (← c.self.view_is) at stands in
     let tracks = with_items_is old.tracks c.drive_all.new.tracks (omega arith) in
-    let rings = with_items_is old.rings c.drive_all.new.rings (omega arith) in
     let driven = c.drive_all.ensures in
     let first = c.as_mut_slice.ensures.value in
     let heard_tracks = with_items_is (with_items old.tracks c.drive_all.new.tracks) c.hear_all.new.tracks (omega arith) in
     let heard_totals = with_items_is old.totals c.hear_all.new.totals (omega arith) in
-    let nodes = rw (c.as_mut_slice-3.ensures.value ∙ tracks, c.as_slice-2.ensures.value, driven.tracks, first) at c.hear_all.ensures.tracks in
-    let totals = rw (c.as_mut_slice-3.ensures.value ∙ tracks, c.as_mut_slice-4.ensures.value, c.as_slice-2.ensures.value, driven.tracks, first) at c.hear_all.ensures.totals in
-    stands_next s t _ _ before
-    (record {
-      left = omega arith;
-      fits = omega arith;
-      nodes_len = inv.tracks_len;
-      rings_len = inv.rings_len;
-      near = rw c.as_slice-2.ensures.value at c.hear_all.ensures.near;
-    })
+    let kept = driven.places ∙ c.turn.ensures.places in
+    stands_next s t _ _ before (omega arith) (omega arith)
     (record {
       tick = refl;
       end = refl;
-      places = refl;
-      rings = rings ∙ rw (c.as_mut_slice-2.ensures.value, first) at driven.rings;
-      nodes = rw (← c.as_slice-3.ensures.value) (heard_tracks ∙ nodes);
+      places = kept;
+      cable = λ rows stands. rw first at (driven.put rows (rw (← c.turn.ensures.places) at (c.turn.ensures.stands rows stands)));
+      nodes = λ rows stands. heard_tracks ∙ rw (c.as_mut_slice-2.ensures.value ∙ tracks, driven.tracks, first, kept) at (c.hear_all.ensures.tracks rows stands);
       settled = rw (c.all_ok-ok.ensures, c.as_slice.ensures.value ∙ tracks, driven.tracks, first) at c.settled_after-self-inside.ensures;
-      totals = rw (← c.as_slice-3.ensures.value) (heard_totals ∙ totals);
+      totals = λ rows stands. heard_totals ∙ rw (c.as_mut_slice-2.ensures.value ∙ tracks, c.as_mut_slice-3.ensures.value, driven.tracks, first, kept) at (c.hear_all.ensures.totals rows stands);
     })

@@ -1,0 +1,23 @@
+use Rattle.std.proofs.Common.{arith, ◌∙◌}
+use Rattle.std.specs.Vec.{with_items}
+use Rattle.std.proofs.lemmas.List.{with_items_is}
+use Rattle.t1s_cable.specs.State.{CableState}
+use Rattle.t1s_cable.proofs.Histories.{stands_next}
+use Rattle.t1s_cable.proofs.cable.Cable.turn.Goals as goal
+
+pub returns-clause-row : goal.returns-clause-row
+returns-clause-row c =
+    let row = with_items_is c.self.inside.row c.end_tick.new.row (omega arith) in
+    rw (← c.self.view_is) (row ∙ rw (c.as_mut_slice.ensures.value, c.self.invariant.row_len) at c.end_tick.ensures.row)
+
+pub returns-clause-stands : goal.returns-clause-stands
+returns-clause-stands c rows stands =
+    let old = c.self.inside in
+    let before = rw (← c.self.view_is) at stands in
+    let rings = with_items_is old.rings c.end_tick.new.rings (omega arith) in
+    let kept = rw (c.as_mut_slice.ensures.value, c.as_mut_slice-2.ensures.value) at c.end_tick.ensures.rings in
+    let row = rw (← c.self.view_is) at (returns-clause-row c) in
+    let was : CableState = record { places = old.places.items; row = old.row.items; rings = old.rings.items } in
+    let is : CableState = record { places = old.places.items; row = (with_items old.row c.end_tick.new.row).items; rings = (with_items old.rings c.end_tick.new.rings).items } in
+    rw (← c.self.view_is)
+    (stands_next was is (omega arith) row (rings ∙ kept) rows before)

@@ -1,0 +1,101 @@
+use crate::kept::{Ring, end_tick, hear_at, new_ring};
+use std::alloc::{AllocError, Global};
+use std::marker::Model;
+use t1s_symbols::{Heard, Quarter};
+
+/// The cable of a segment in its run. Its nodes are named by their positions among the places.
+#[derive(Drop)]
+pub struct Cable {
+    places: Vec<u8>,
+    row: Vec<Option<Quarter>>,
+    rings: Vec<Ring>,
+}
+
+impl Model for Cable {
+    ghost use Rattle.std.specs.Prelude.{◌≡◌, length};
+    ghost use Rattle.t1s_cable.specs.State.{CableState};
+
+    ghost Value = { CableState };
+
+    ghost view = { λ c. record {
+      places = c.places.items;
+      row = c.row.items;
+      rings = c.rings.items;
+    } };
+
+    ghost invariant = { λ c. record {
+      row_len : length c.row.items ≡ length c.places.items;
+      rings_len : length c.rings.items ≡ length c.places.items;
+    } };
+}
+
+impl Cable {
+    ghost use Rattle.std.specs.Prelude.{◌≡◌, ◌<◌, ◌≤◌, List, Option, None, [], ◌∷◌, length, get_or, set, IfOk};
+    ghost use Rattle.t1s_symbols.specs.declared.Quarter.{Quarter};
+    ghost use Rattle.t1s_world.specs.Hearing.{heard};
+    ghost use Rattle.t1s_world.specs.World.{at_depth};
+    ghost use Rattle.t1s_cable.specs.Stands.{Stands, no_puts};
+
+    /// A cable with nodes at these 1 to 16 places, in its first tick, in which nothing is put yet. It takes
+    /// all memory of the run. A place is a distance along the cable in whole bit times.
+    pub fn new(alloc: Global, places: &[u8]) -> Result<Cable, AllocError>
+        requires some { 1 ≤ length places.now }
+        requires few { length places.now ≤ 16 }
+        ensures places { IfOk result (λ c. c.places ≡ places.now) }
+        ensures row { IfOk result (λ c. c.row ≡ no_puts places.now) }
+        ensures stands { IfOk result (λ c. Stands (no_puts places.now ∷ []) c) }
+    {
+        let mut kept = Vec::with_capacity(alloc, places.len())?;
+        let mut row = Vec::with_capacity(alloc, places.len())?;
+        let mut rings = Vec::with_capacity(alloc, places.len())?;
+        for place in places {
+            kept.push(*place)?;
+            row.push(None)?;
+            rings.push(new_ring(alloc)?)?;
+        }
+        Ok(Cable {
+            places: kept,
+            row,
+            rings,
+        })
+    }
+
+    /// Puts what a node drives in the current tick. The node is a position among the places, and nothing was
+    /// put for it in this tick. A node for which nothing is put drives nothing. It takes no memory.
+    pub fn put(&mut self, node: u8, q: Option<Quarter>)
+        requires node { node < length self.old.places }
+        requires free { get_or self.old.row node None ≡ None }
+        ensures places { self.new.places ≡ self.old.places }
+        ensures row { self.new.row ≡ set self.old.row node q }
+        ensures stands { (row : List (Option Quarter)) (past : List (List (Option Quarter))) →
+            Stands (row ∷ past) self.old → Stands (set row node q ∷ past) self.new }
+    {
+        self.row[usize::from(node)] = q;
+    }
+
+    /// What a node hears in the current tick, asked once all has been put: of each other node what it drove
+    /// as many ticks ago as it is far away. The node is a position among the places. There is no noise.
+    pub fn heard(&self, node: u8) -> Heard
+        requires { node < length self.now.places }
+        ensures { (rows : List (List (Option Quarter))) →
+            Stands rows self.now → result ≡ heard (at_depth rows) self.now.places node }
+    {
+        hear_at(
+            self.places.as_slice(),
+            self.row.as_slice(),
+            self.rings.as_slice(),
+            usize::from(node),
+        )
+    }
+
+    /// Ends the tick: what was put stays in the history, and nothing is put yet in the next tick. It takes no
+    /// memory.
+    pub fn turn(&mut self)
+        ensures places { self.new.places ≡ self.old.places }
+        ensures row { self.new.row ≡ no_puts self.old.places }
+        ensures stands { (rows : List (List (Option Quarter))) →
+            Stands rows self.old → Stands (no_puts self.old.places ∷ rows) self.new }
+    {
+        end_tick(self.row.as_mut_slice(), self.rings.as_mut_slice());
+    }
+}

@@ -1,0 +1,16 @@
+//! The cable of a segment: what each node drove in the last ticks, and what a node hears of it in this tick.
+//!
+//! The layer above uses that a `Cable` stands for the whole history of what was put on it (`Stands` in
+//! `specs/Stands.antt`), though it keeps no more than the longest cable needs: `put` and `turn` extend that
+//! history, and `heard` is what the world hears over all of it (`specs/Hearing.antt` of `t1s_world`). What
+//! contracts see of a cable stands in `specs/State.antt`, and what it keeps in `specs/Rings.antt`. Only
+//! `Cable::new` takes memory.
+#![tactic(auto)]
+
+mod cable;
+mod kept;
+
+pub use cable::Cable;
+
+#[cfg(test)]
+mod tests;

@@ -1,0 +1,188 @@
+ghost use Rattle.std.specs.Prelude.{◌≡◌, length};
+
+use super::*;
+use std::process::Abort;
+use std::test::Fail;
+use t1s_symbols::{Heard, Quarter, Symbol};
+
+/// A quarter of a beacon.
+const BEACON: Quarter = Quarter {
+    sym: Symbol::N,
+    part: 0,
+};
+
+/// A quarter of a commit.
+const COMMIT: Quarter = Quarter {
+    sym: Symbol::J,
+    part: 2,
+};
+
+/// Turns to the next tick, in which each of three nodes drives what is given here.
+fn play(cable: &mut Cable, first: Option<Quarter>, second: Option<Quarter>, third: Option<Quarter>)
+    requires { length cable.old.places ≡ 3 }
+    ensures { length cable.new.places ≡ 3 }
+{
+    cable.turn();
+    cable.put(0, first);
+    cable.put(1, second);
+    cable.put(2, third);
+}
+
+/// Turns through ticks in which nothing is put.
+fn wait(cable: &mut Cable, ticks: u64)
+    requires { length cable.old.places ≡ 3 }
+    ensures { length cable.new.places ≡ 3 }
+{
+    for _ in 0..ticks {
+        cable.turn();
+    }
+}
+
+/// Compares what the three nodes hear.
+fn check_heard(rt: &impl Abort, cable: &Cable, want: [Heard; 3])
+    requires { length cable.now.places ≡ 3 }
+{
+    assert_eq!(rt; cable.heard(0), want[0]);
+    assert_eq!(rt; cable.heard(1), want[1]);
+    assert_eq!(rt; cable.heard(2), want[2]);
+}
+
+#[test]
+fn a_quarter_is_heard_as_late_as_its_node_is_far_away(rt: HostRuntime) -> Result<(), Fail> {
+    let mut cable = Cable::new(rt.alloc(), &[0, 2, 5])?;
+    cable.put(1, Some(BEACON));
+    check_heard(
+        &rt,
+        &cable,
+        [Heard::Nothing, Heard::Nothing, Heard::Nothing],
+    );
+    wait(&mut cable, 1);
+    check_heard(
+        &rt,
+        &cable,
+        [Heard::Nothing, Heard::Nothing, Heard::Nothing],
+    );
+    wait(&mut cable, 1);
+    check_heard(
+        &rt,
+        &cable,
+        [Heard::One(BEACON), Heard::Nothing, Heard::Nothing],
+    );
+    wait(&mut cable, 1);
+    check_heard(
+        &rt,
+        &cable,
+        [Heard::Nothing, Heard::Nothing, Heard::One(BEACON)],
+    );
+    wait(&mut cable, 1);
+    check_heard(
+        &rt,
+        &cable,
+        [Heard::Nothing, Heard::Nothing, Heard::Nothing],
+    );
+    Ok(())
+}
+
+#[test]
+fn the_farther_node_is_heard_later(rt: HostRuntime) -> Result<(), Fail> {
+    let mut cable = Cable::new(rt.alloc(), &[0, 2, 5])?;
+    play(&mut cable, None, None, Some(COMMIT));
+    wait(&mut cable, 2);
+    check_heard(
+        &rt,
+        &cable,
+        [Heard::Nothing, Heard::Nothing, Heard::Nothing],
+    );
+    wait(&mut cable, 1);
+    check_heard(
+        &rt,
+        &cable,
+        [Heard::Nothing, Heard::One(COMMIT), Heard::Nothing],
+    );
+    wait(&mut cable, 1);
+    check_heard(
+        &rt,
+        &cable,
+        [Heard::Nothing, Heard::Nothing, Heard::Nothing],
+    );
+    wait(&mut cable, 1);
+    check_heard(
+        &rt,
+        &cable,
+        [Heard::One(COMMIT), Heard::Nothing, Heard::Nothing],
+    );
+    Ok(())
+}
+
+#[test]
+fn two_that_arrive_at_once_are_many(rt: HostRuntime) -> Result<(), Fail> {
+    let mut cable = Cable::new(rt.alloc(), &[0, 2, 5])?;
+    play(&mut cable, None, None, Some(COMMIT));
+    wait(&mut cable, 2);
+    play(&mut cable, None, Some(BEACON), None);
+    wait(&mut cable, 1);
+    check_heard(
+        &rt,
+        &cable,
+        [Heard::Nothing, Heard::Nothing, Heard::Nothing],
+    );
+    wait(&mut cable, 1);
+    check_heard(&rt, &cable, [Heard::Many, Heard::Nothing, Heard::Nothing]);
+    Ok(())
+}
+
+#[test]
+fn nodes_at_one_place_hear_each_other_in_the_same_tick(rt: HostRuntime) -> Result<(), Fail> {
+    let mut cable = Cable::new(rt.alloc(), &[7, 7, 7])?;
+    play(&mut cable, Some(BEACON), None, None);
+    check_heard(
+        &rt,
+        &cable,
+        [Heard::Nothing, Heard::One(BEACON), Heard::One(BEACON)],
+    );
+    play(&mut cable, Some(BEACON), Some(COMMIT), None);
+    check_heard(
+        &rt,
+        &cable,
+        [Heard::One(COMMIT), Heard::One(BEACON), Heard::Many],
+    );
+    play(&mut cable, Some(BEACON), Some(COMMIT), Some(COMMIT));
+    check_heard(&rt, &cable, [Heard::Many, Heard::Many, Heard::Many]);
+    wait(&mut cable, 1);
+    check_heard(
+        &rt,
+        &cable,
+        [Heard::Nothing, Heard::Nothing, Heard::Nothing],
+    );
+    Ok(())
+}
+
+#[test]
+fn the_farthest_nodes_hear_each_other_after_255_ticks(rt: HostRuntime) -> Result<(), Fail> {
+    let mut cable = Cable::new(rt.alloc(), &[0, 255, 255])?;
+    play(&mut cable, Some(BEACON), Some(COMMIT), None);
+    check_heard(
+        &rt,
+        &cable,
+        [Heard::Nothing, Heard::Nothing, Heard::One(COMMIT)],
+    );
+    wait(&mut cable, 254);
+    check_heard(
+        &rt,
+        &cable,
+        [Heard::Nothing, Heard::Nothing, Heard::Nothing],
+    );
+    wait(&mut cable, 1);
+    check_heard(
+        &rt,
+        &cable,
+        [Heard::One(COMMIT), Heard::One(BEACON), Heard::One(BEACON)],
+    );
+    wait(&mut cable, 1);
+    check_heard(
+        &rt,
+        &cable,
+        [Heard::Nothing, Heard::Nothing, Heard::Nothing],
+    );
+    Ok(())
+}

@@ -1,7 +1,0 @@
-use Rattle.std.proofs.Common.{◌≡◌, take, get_or}
-use Rattle.t1s_world.specs.Hearing.{heard_of, arriving_from}
-use Rattle.t1s_segment.specs.Rings.{ring_at}
-use Rattle.t1s_segment.proofs.phases.hear_at.Given as goal
-
-abbrev pub invariant-loop-i : goal.invariant-loop-i
-invariant-loop-i l = l.heard ≡ heard_of (arriving_from (ring_at l.rings) l.j (get_or l.places l.j 0) 0 (take l.i l.places))

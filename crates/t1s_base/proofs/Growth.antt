@@ -2,7 +2,7 @@
 use Rattle.std.proofs.Common.{◌≡◌, ℕ, ◌+◌, List, [], ◌++◌, Option, None, Some, IfSome, arith, length, take, refl, sym, ap, ◌∙◌, append_assoc, append-nil}
 use Rattle.std.proofs.Math.Seq.{take-append_seam, take-append-add}
 use Rattle.std.specs.Io.KnownBytes.{prepend_known, append_known}
-use Rattle.t1s_base.specs.Octets.{Gives, Grows, GrowsByFront}
+use Rattle.t1s_base.specs.Octets.{Gives, Grows, GrowsByPrefix}
 
 -- nothing was written
 pub grows_nothing : (a : Option (List ℕ)) → Grows a a []
@@ -14,13 +14,13 @@ pub grows_then : (a b c : Option (List ℕ)) (xs ys : List ℕ) → Grows a b xs
 grows_then None b c xs ys p q = q ∙ ap (λ k. append_known k ys) p
 grows_then (Some ws) b c xs ys p q = q ∙ ap (λ k. append_known k ys) p ∙ ap Some (append_assoc ws xs ys)
 
--- all of some octets are a front of them and what follows
-pub front_of_whole : (a b : Option (List ℕ)) (xs ys : List ℕ) → Grows a b xs → GrowsByFront a b (xs ++ ys)
-front_of_whole a b xs ys p = (length xs, p ∙ ap (append_known a) (sym (take-append_seam xs ys)))
+-- all of some octets are a prefix of them and what follows
+pub prefix_of_whole : (a b : Option (List ℕ)) (xs ys : List ℕ) → Grows a b xs → GrowsByPrefix a b (xs ++ ys)
+prefix_of_whole a b xs ys p = (length xs, p ∙ ap (append_known a) (sym (take-append_seam xs ys)))
 
--- some octets, and then a front of others
-pub grows_then_front : (a b c : Option (List ℕ)) (xs ys : List ℕ) → Grows a b xs → GrowsByFront b c ys → GrowsByFront a c (xs ++ ys)
-grows_then_front a b c xs ys p q =
+-- some octets, and then a prefix of others
+pub grows_then_prefix : (a b c : Option (List ℕ)) (xs ys : List ℕ) → Grows a b xs → GrowsByPrefix b c ys → GrowsByPrefix a c (xs ++ ys)
+grows_then_prefix a b c xs ys p q =
     (length xs + q.0, grows_then a b c xs (take q.0 ys) p q.1 ∙ ap (append_known a) (sym (take-append-add xs ys q.0)))
 
 -- nothing was given

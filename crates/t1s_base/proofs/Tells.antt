@@ -3,11 +3,11 @@ use Rattle.std.proofs.Common.{◌≡◌, ℕ, ◌<◌, ◌↔◌, List, [], ◌+
 use Rattle.std.proofs.lemmas.List.{take_at, length-take-le, nil_from_length}
 use Rattle.std.proofs.lemmas.Grind.{common_steps}
 use Rattle.std.specs.Io.{ReadsAtMost}
-use Rattle.t1s_base.specs.Causes.{raised, HasCause}
+use Rattle.t1s_base.specs.Causes.{count_after_fault, HasCause}
 use Rattle.t1s_base.specs.declared.sinks.WriteStop.{WriteStop}
 
--- a count that stays at Ok and is raised at a refusal has a cause
-pub cause_of_count : {T E : Type 0} (before after : ℕ) (r : Result T E) → OnOk r (after ≡ before) → OnErr r (after ≡ raised before) → HasCause before after r
+-- a count that stays at Ok and is count_after_fault at a refusal has a cause
+pub cause_of_count : {T E : Type 0} (before after : ℕ) (r : Result T E) → OnOk r (after ≡ before) → OnErr r (after ≡ count_after_fault before) → HasCause before after r
 cause_of_count before after (Ok x) ok err = record { later = omega arith; failed = tt; kept = ok }
 cause_of_count before after (Err e) ok err = record { later = omega arith; failed = omega arith; kept = tt }
 
@@ -39,7 +39,7 @@ pub either_way : {T E P : Type 0} (r : Result T E) → OnOk r P → OnErr r P �
 either_way (Ok x) ok err = ok
 either_way (Err e) ok err = err
 
--- a write that takes nothing appends a front of nothing
-pub write_front : {T : Type 0} (old new piece : List ℕ) (r : Result T WriteStop) → IfErr r (λ stop. stop.taken ≡ 0) → OnErr r (new ≡ old) → IfErr r (λ stop. Some new ≡ Some (old ++ take stop.taken piece))
-write_front old new piece (Ok x) none same = tt
-write_front old new piece (Err stop) none same = ap Some (rw (none, same) (sym (append-nil old)))
+-- a write that takes nothing appends a prefix of nothing
+pub write_prefix : {T : Type 0} (old new piece : List ℕ) (r : Result T WriteStop) → IfErr r (λ stop. stop.taken ≡ 0) → OnErr r (new ≡ old) → IfErr r (λ stop. Some new ≡ Some (old ++ take stop.taken piece))
+write_prefix old new piece (Ok x) none same = tt
+write_prefix old new piece (Err stop) none same = ap Some (rw (none, same) (sym (append-nil old)))

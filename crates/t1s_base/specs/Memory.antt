@@ -1,7 +1,7 @@
 -- What contracts see of the sources and sinks in memory and of those over a reader or a writer.
 use Rattle.std.specs.Prelude.{ℕ, ◌+◌, Bool, not, ◌&&◌, ◌==◌, List, length, nat_le, Option}
 use Rattle.std.specs.List.{list_any}
-use Rattle.t1s_base.specs.Causes.{raised}
+use Rattle.t1s_base.specs.Causes.{count_after_fault}
 
 -- The calls of an object whose faults are planned: the numbers of those that fail, counted from 1,
 -- how many calls were made, and how many of them failed.
@@ -16,15 +16,15 @@ no_calls fails = record { fails = fails; made = 0; failed = 0 }
 
 -- the number of the next call is one of those that fail
 abbrev pub is_next_listed : CallsState → Bool
-is_next_listed calls = list_any (λ number. number == raised calls.made) calls.fails
+is_next_listed calls = list_any (λ number. number == count_after_fault calls.made) calls.fails
 
 -- after one more call that did not fail
 abbrev pub after_call : CallsState → CallsState
-after_call calls = record calls { made = raised calls.made }
+after_call calls = record calls { made = count_after_fault calls.made }
 
 -- after one more call that failed
 abbrev pub after_fault : CallsState → CallsState
-after_fault calls = record calls { made = raised calls.made; failed = raised calls.failed }
+after_fault calls = record calls { made = count_after_fault calls.made; failed = count_after_fault calls.failed }
 
 -- a source in memory: the octets that are left, and its calls
 pub record SourceState : Type 0 where

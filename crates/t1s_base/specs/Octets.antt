@@ -11,6 +11,6 @@ Gives before after octets = before ≡ prepend_known octets after
 abbrev pub Grows : Option (List ℕ) → Option (List ℕ) → List ℕ → Type 0
 Grows before after octets = after ≡ append_known before octets
 
--- A sink has grown by a front of these octets: by none, some or all of them, from the first on.
-abbrev pub GrowsByFront : Option (List ℕ) → Option (List ℕ) → List ℕ → Type 0
-GrowsByFront before after octets = (count : ℕ) × Grows before after (take count octets)
+-- A sink has grown by a prefix of these octets: by none, some or all of them, from the first on.
+abbrev pub GrowsByPrefix : Option (List ℕ) → Option (List ℕ) → List ℕ → Type 0
+GrowsByPrefix before after octets = (count : ℕ) × Grows before after (take count octets)

@@ -1,13 +1,13 @@
 // The calls of a source or a sink whose faults are planned.
 ghost use Rattle.std.specs.Prelude.{◌≡◌};
-ghost use Rattle.t1s_base.specs.Causes.{raised};
+ghost use Rattle.t1s_base.specs.Causes.{count_after_fault};
 ghost use Rattle.t1s_base.specs.Memory.{no_calls, is_next_listed, after_call};
 
 use std::marker::Model;
 
 /// Raises a count by one. A count of 18446744073709551615 stays there.
 pub(crate) fn raise(count: &mut u64)
-    ensures { count.new ≡ raised count.old }
+    ensures { count.new ≡ count_after_fault count.old }
 {
     *count = count.saturating_add(1);
 }
@@ -51,7 +51,7 @@ impl Calls {
 
     /// Counts the fault of the call that was counted last.
     pub(crate) fn fail(&mut self)
-        ensures { self.new ≡ record self.old { failed = raised self.old.failed } }
+        ensures { self.new ≡ record self.old { failed = count_after_fault self.old.failed } }
     {
         raise(&mut self.failed);
     }

@@ -27,7 +27,7 @@ pub trait Sink {
     fn write(&mut self, piece: &[u8]) -> Result<(), WriteStop>
         ensures bound { IfErr result (λ stop. stop.taken ≤ length piece.now) }
         ensures whole { OnOk result (Grows (written self.old) (written self.new) piece.now) }
-        ensures front { IfErr result (λ stop. Grows (written self.old) (written self.new) (take stop.taken piece.now)) }
+        ensures prefix { IfErr result (λ stop. Grows (written self.old) (written self.new) (take stop.taken piece.now)) }
         ensures unfinished { finished self.new ≡ false }
         ensures cause { HasCause (faults self.old) (faults self.new) result };
 

@@ -2,7 +2,7 @@
 ghost use Rattle.std.specs.Prelude.{◌≡◌, ◌≤◌, true, false, length, take, None, IfErr, OnOk, OnErr};
 ghost use Rattle.std.specs.Io.{ReadsAtMost};
 ghost use Rattle.std.specs.Io.KnownBytes.{ReadConsumes, Appends, Keeps};
-ghost use Rattle.t1s_base.specs.Causes.{HasCause, raised};
+ghost use Rattle.t1s_base.specs.Causes.{HasCause, count_after_fault};
 
 use crate::calls::raise;
 use crate::{Failed, Sink, Source, WriteStop};
@@ -42,7 +42,7 @@ impl<R: Read> Source for StdSource<R> {
     fn read(&mut self, into: &mut [u8]) -> Result<usize, Failed>
         ensures bound { ReadsAtMost result into.new }
         ensures passed { ReadConsumes self.old.remaining self.new.remaining result into.new }
-        ensures counted { OnErr result (self.new.faults ≡ raised self.old.faults) }
+        ensures counted { OnErr result (self.new.faults ≡ count_after_fault self.old.faults) }
         ensures cause { HasCause self.old.faults self.new.faults result }
     {
         match self.inner.read(into) {
@@ -89,7 +89,7 @@ impl<W: Write> StdSink<W> {
 fn write_whole<W: Write>(writer: &mut W, piece: &[u8]) -> Result<(), WriteStop>
     ensures bound { IfErr result (λ stop. stop.taken ≤ length piece.now) }
     ensures whole { OnOk result (Appends (W.contents writer.old) (W.contents writer.new) piece.now) }
-    ensures front { IfErr result (λ stop. Appends (W.contents writer.old) (W.contents writer.new) (take stop.taken piece.now)) }
+    ensures prefix { IfErr result (λ stop. Appends (W.contents writer.old) (W.contents writer.new) (take stop.taken piece.now)) }
 {
     let mut taken = 0;
     while taken < piece.len() {
@@ -112,9 +112,9 @@ impl<W: Write> Sink for StdSink<W> {
     fn write(&mut self, piece: &[u8]) -> Result<(), WriteStop>
         ensures bound { IfErr result (λ stop. stop.taken ≤ length piece.now) }
         ensures whole { OnOk result (Appends self.old.contents self.new.contents piece.now) }
-        ensures front { IfErr result (λ stop. Appends self.old.contents self.new.contents (take stop.taken piece.now)) }
+        ensures prefix { IfErr result (λ stop. Appends self.old.contents self.new.contents (take stop.taken piece.now)) }
         ensures unfinished { self.new.finished ≡ false }
-        ensures counted { OnErr result (self.new.faults ≡ raised self.old.faults) }
+        ensures counted { OnErr result (self.new.faults ≡ count_after_fault self.old.faults) }
         ensures cause { HasCause self.old.faults self.new.faults result }
     {
         self.finished = false;
@@ -132,7 +132,7 @@ impl<W: Write> Sink for StdSink<W> {
         ensures finished { OnOk result (self.new.finished ≡ true) }
         ensures as_before { OnErr result (self.new.finished ≡ self.old.finished) }
         ensures passed { Keeps self.old.contents self.new.contents }
-        ensures counted { OnErr result (self.new.faults ≡ raised self.old.faults) }
+        ensures counted { OnErr result (self.new.faults ≡ count_after_fault self.old.faults) }
         ensures cause { HasCause self.old.faults self.new.faults result }
     {
         match self.inner.flush() {

@@ -20,7 +20,7 @@ use Rattle.t1s_capture.specs.declared.stage.Mark.TheVariants.{Gap as GapMark, En
 use Rattle.t1s_capture.specs.Captures.{CaptureItem, Gap, Burst, Torn, magic, no_symbols, symbol_count, ticks_of}
 use Rattle.t1s_capture.specs.Pieces.{history_behind, pieces_nibbles}
 use Rattle.t1s_capture.specs.Fronts.{Tail, in_gap, in_burst, in_blur, after_torn, ended, Front, in_magic, at_version, at_node, behind}
-use Rattle.t1s_capture.specs.Handed.{Handed, PieceItem, TornItem, burst_item}
+use Rattle.t1s_capture.specs.DecodedItems.{DecodedItem, PieceItem, TornItem, burst_item}
 use Rattle.t1s_capture.specs.Advance.{mark, count_of}
 use Rattle.t1s_capture.specs.Stands.{ends_with_gap, needs_blur}
 use Rattle.t1s_capture.specs.Growing.{grown, piece_of}
@@ -104,50 +104,50 @@ grow (behind node items tail) o = grow_tail tail node items o
 -- ---- the item that is handed out at the octet, where there is one
 
 -- the item of a piece that this closer ends
-abbrev pub piece_item : List CaptureItem → Beginning → Symbol → Handed
+abbrev pub piece_item : List CaptureItem → Beginning → Symbol → DecodedItem
 piece_item items b s =
     PieceItem (ticks_of items + 4 * length (pieces_symbols (whole_pieces b)))
     (view_of (descrambler_after (history_behind items) (pieces_nibbles (whole_pieces b))) (piece_of (last_lead b) (last_nibbles b) s))
 
-abbrev pub closer_item : List CaptureItem → Beginning → Symbol → Option Handed
+abbrev pub closer_item : List CaptureItem → Beginning → Symbol → Option DecodedItem
 closer_item items b R = Some (piece_item items b R)
 closer_item items b K = Some (piece_item items b K)
 closer_item items b S = Some (piece_item items b S)
 closer_item items b _ = None
 
-abbrev pub symbol_item : List CaptureItem → Beginning → Symbol → Result Phase PlaceFault → Option Handed
+abbrev pub symbol_item : List CaptureItem → Beginning → Symbol → Result Phase PlaceFault → Option DecodedItem
 symbol_item items b s (Ok q) = closer_item items b s
 symbol_item items b s (Err e) = None
 
-abbrev pub whole_burst_item : List CaptureItem → Beginning → Option Handed
+abbrev pub whole_burst_item : List CaptureItem → Beginning → Option DecodedItem
 whole_burst_item items b = if ends_burst (phase_of b) then Some (burst_item (ticks_of items) b) else None
 
-abbrev pub burst_item_at : Mark → List CaptureItem → Beginning → Option Handed
+abbrev pub burst_item_at : Mark → List CaptureItem → Beginning → Option DecodedItem
 burst_item_at GapMark items b = whole_burst_item items b
 burst_item_at End items b = whole_burst_item items b
 burst_item_at TornMark items b = None
 burst_item_at (Known s) items b = symbol_item items b s (place_step (phase_of b) s)
 burst_item_at Unknown items b = None
 
-abbrev pub torn_item : List CaptureItem → Beginning → ℕ → Option Handed
+abbrev pub torn_item : List CaptureItem → Beginning → ℕ → Option DecodedItem
 torn_item items b n =
     if needs_blur b && (n == 0) then None
     else Some (TornItem (ticks_of items) (ticks_of items + (4 * symbol_count b + n)) (symbol_count b) n)
 
-abbrev pub blur_item_at : CountSoFar → List CaptureItem → Beginning → ℕ → Option Handed
+abbrev pub blur_item_at : CountSoFar → List CaptureItem → Beginning → ℕ → Option DecodedItem
 blur_item_at Nothing items b d = None
 blur_item_at (One a) items b d = None
 blur_item_at (Two a c) items b d = None
 blur_item_at (Three a c e) items b d = torn_item items b (count_of a c e d)
 
-abbrev pub tail_item_at : Tail → List CaptureItem → ℕ → Option Handed
+abbrev pub tail_item_at : Tail → List CaptureItem → ℕ → Option DecodedItem
 tail_item_at (in_gap count) items o = None
 tail_item_at (in_burst b) items o = burst_item_at (mark o) items b
 tail_item_at (in_blur b count) items o = blur_item_at count items b o
 tail_item_at after_torn items o = None
 tail_item_at ended items o = None
 
-abbrev pub item_at : Front → ℕ → Option Handed
+abbrev pub item_at : Front → ℕ → Option DecodedItem
 item_at (in_magic n) o = None
 item_at at_version o = None
 item_at at_node o = None

@@ -20,7 +20,7 @@ use Rattle.t1s_capture.specs.declared.stage.Mark.TheVariants.{Gap as GapMark, En
 use Rattle.t1s_capture.specs.Captures.{CaptureItem, Gap, Burst, Torn, magic, no_symbols, symbol_count, ticks_of}
 use Rattle.t1s_capture.specs.Pieces.{history_behind, pieces_nibbles}
 use Rattle.t1s_capture.specs.Fronts.{Tail, in_gap, in_burst, in_blur, after_torn, ended, Front, in_magic, at_version, at_node, behind, AreMadeOf}
-use Rattle.t1s_capture.specs.Handed.{Handed, PieceItem, BeaconItem, RunItem, BareItem, TornItem, burst_item, IsPieceOctet, IsBurstOctet, IsTornOctet, IsItemOctet}
+use Rattle.t1s_capture.specs.DecodedItems.{DecodedItem, PieceItem, BeaconItem, RunItem, BareItem, TornItem, burst_item, IsPieceOctet, IsBurstOctet, IsTornOctet, IsItemOctet}
 use Rattle.t1s_capture.specs.Advance.{mark, count_of}
 use Rattle.t1s_capture.specs.Stands.{ends_with_gap, needs_blur}
 use Rattle.t1s_capture.specs.Growing.{grown, piece_of}
@@ -33,17 +33,17 @@ use Rattle.t1s_capture.proofs.States.{not_taken}
 
 -- ---- an item that is handed out is at its octet
 
-same_item : (x y : Handed) → ◌≡◌ {A = Option Handed} (Some x) (Some y) → x ≡ y
+same_item : (x y : DecodedItem) → ◌≡◌ {A = Option DecodedItem} (Some x) (Some y) → x ≡ y
 same_item x y e = cc
 
-no_item : (y : Handed) → ◌≡◌ {A = Option Handed} None (Some y) → ⊥
+no_item : (y : DecodedItem) → ◌≡◌ {A = Option DecodedItem} None (Some y) → ⊥
 no_item y e = cc
 
-item_if : (b : Bool) (x y : Handed) → ◌≡◌ {A = Option Handed} (if b then Some x else None) (Some y) → (b ≡ true) × (x ≡ y)
+item_if : (b : Bool) (x y : DecodedItem) → ◌≡◌ {A = Option DecodedItem} (if b then Some x else None) (Some y) → (b ≡ true) × (x ≡ y)
 item_if true x y e = (refl, same_item x y e)
 item_if false x y e = absurd (no_item y e)
 
-item_unless : (b : Bool) (x y : Handed) → ◌≡◌ {A = Option Handed} (if b then None else Some x) (Some y) → (b ≡ false) × (x ≡ y)
+item_unless : (b : Bool) (x y : DecodedItem) → ◌≡◌ {A = Option DecodedItem} (if b then None else Some x) (Some y) → (b ≡ false) × (x ≡ y)
 item_unless true x y e = absurd (no_item y e)
 item_unless false x y e = (refl, same_item x y e)
 
@@ -56,10 +56,10 @@ burst_octet octets o start (within ps lead ns) h = h
 burst_octet octets o start (ended_piece ps lead ns) h = h
 
 module _ (octets : List ℕ) (o : ℕ) (node : ℕ) (items : List CaptureItem) (b : Beginning) (m : AreMadeOf octets (behind node items (in_burst b))) (short : length octets < 2 ^ 30) (low : o < 256) where
-  whole_here : (item : Handed) → (o ≡ 0x20) ⊎ (o ≡ 0x21) → whole_burst_item items b ≡ Some item → IsItemOctet octets o item
+  whole_here : (item : DecodedItem) → (o ≡ 0x20) ⊎ (o ≡ 0x21) → whole_burst_item items b ≡ Some item → IsItemOctet octets o item
   whole_here item next e =
       let t = item_if (ends_burst (phase_of b)) (burst_item (ticks_of items) b) item e in
-      subst (λ (i : Handed). IsItemOctet octets o i) t.1
+      subst (λ (i : DecodedItem). IsItemOctet octets o i) t.1
       (burst_octet octets o (ticks_of items) b (record {
         node = node;
         items = items;
@@ -86,7 +86,7 @@ piece_here octets o node items ps lead ns s short m = record {
 }
 
 -- a closer that is taken stands behind T
-closer_here : (octets : List ℕ) (o node : ℕ) (items : List CaptureItem) (b : Beginning) (s : Symbol) (q : Phase) (item : Handed) → length octets < 2 ^ 30 →
+closer_here : (octets : List ℕ) (o node : ℕ) (items : List CaptureItem) (b : Beginning) (s : Symbol) (q : Phase) (item : DecodedItem) → length octets < 2 ^ 30 →
     place_step (phase_of b) s ≡ place_taken q → AreMadeOf (octets ++ o ∷ []) (behind node items (in_burst (grown b s))) → closer_item items b s ≡ Some item →
     IsItemOctet octets o item
 closer_here octets o node items b (Nibble n) q item short p m e = absurd (no_item item e)
@@ -99,21 +99,21 @@ closer_here octets o node items (between ps lead) R q item short p m e = absurd 
 closer_here octets o node items (opened ps lead) R q item short p m e = absurd (not_taken q p)
 closer_here octets o node items (within ps lead ns) R q item short p m e = absurd (not_taken q p)
 closer_here octets o node items (ended_piece ps lead ns) R q item short p m e =
-    subst (λ (i : Handed). IsItemOctet octets o i) (same_item (piece_item items (ended_piece ps lead ns) R) item e) (piece_here octets o node items ps lead ns R short m)
+    subst (λ (i : DecodedItem). IsItemOctet octets o i) (same_item (piece_item items (ended_piece ps lead ns) R) item e) (piece_here octets o node items ps lead ns R short m)
 closer_here octets o node items (beacon k) K q item short p m e = absurd (not_taken q p)
 closer_here octets o node items (between ps lead) K q item short p m e = absurd (not_taken q p)
 closer_here octets o node items (opened ps lead) K q item short p m e = absurd (not_taken q p)
 closer_here octets o node items (within ps lead ns) K q item short p m e = absurd (not_taken q p)
 closer_here octets o node items (ended_piece ps lead ns) K q item short p m e =
-    subst (λ (i : Handed). IsItemOctet octets o i) (same_item (piece_item items (ended_piece ps lead ns) K) item e) (piece_here octets o node items ps lead ns K short m)
+    subst (λ (i : DecodedItem). IsItemOctet octets o i) (same_item (piece_item items (ended_piece ps lead ns) K) item e) (piece_here octets o node items ps lead ns K short m)
 closer_here octets o node items (beacon k) S q item short p m e = absurd (not_taken q p)
 closer_here octets o node items (between ps lead) S q item short p m e = absurd (not_taken q p)
 closer_here octets o node items (opened ps lead) S q item short p m e = absurd (not_taken q p)
 closer_here octets o node items (within ps lead ns) S q item short p m e = absurd (not_taken q p)
 closer_here octets o node items (ended_piece ps lead ns) S q item short p m e =
-    subst (λ (i : Handed). IsItemOctet octets o i) (same_item (piece_item items (ended_piece ps lead ns) S) item e) (piece_here octets o node items ps lead ns S short m)
+    subst (λ (i : DecodedItem). IsItemOctet octets o i) (same_item (piece_item items (ended_piece ps lead ns) S) item e) (piece_here octets o node items ps lead ns S short m)
 
-symbol_here : (octets : List ℕ) (o node : ℕ) (items : List CaptureItem) (b : Beginning) (s : Symbol) (r : Result Phase PlaceFault) (g : Front) (item : Handed) → length octets < 2 ^ 30 →
+symbol_here : (octets : List ℕ) (o node : ℕ) (items : List CaptureItem) (b : Beginning) (s : Symbol) (r : Result Phase PlaceFault) (g : Front) (item : DecodedItem) → length octets < 2 ^ 30 →
     place_step (phase_of b) s ≡ r → grow_symbol node items b s r ≡ grew g → AreMadeOf (octets ++ o ∷ []) g → symbol_item items b s r ≡ Some item →
     IsItemOctet octets o item
 symbol_here octets o node items b s (Ok q) g item short p e m i =
@@ -121,7 +121,7 @@ symbol_here octets o node items b s (Ok q) g item short p e m i =
     (subst (λ (x : Front). AreMadeOf (octets ++ o ∷ []) x) (sym (same_front (behind node items (in_burst (grown b s))) g e)) m) i
 symbol_here octets o node items b s (Err x) g item short p e m i = absurd (no_item item i)
 
-burst_here : (octets : List ℕ) (o node : ℕ) (items : List CaptureItem) (b : Beginning) (k : Mark) (g : Front) (item : Handed) → length octets < 2 ^ 30 → o < 256 →
+burst_here : (octets : List ℕ) (o node : ℕ) (items : List CaptureItem) (b : Beginning) (k : Mark) (g : Front) (item : DecodedItem) → length octets < 2 ^ 30 → o < 256 →
     AreMadeOf octets (behind node items (in_burst b)) → IsMarked o k → grow_burst k node items b ≡ grew g → AreMadeOf (octets ++ o ∷ []) g →
     burst_item_at k items b ≡ Some item → IsItemOctet octets o item
 burst_here octets o node items b GapMark g item short low m is e n i = whole_here octets o node items b m short low item (inl is) i
@@ -131,7 +131,7 @@ burst_here octets o node items b (Known s) g item short low m is e n i =
     symbol_here octets o node items b s (place_step (phase_of b) s) g item short refl e n i
 burst_here octets o node items b Unknown g item short low m is e n i = absurd (no_item item i)
 
-blur_here : (octets : List ℕ) (o node : ℕ) (items : List CaptureItem) (b : Beginning) (count : CountSoFar) (g : Front) (item : Handed) → length octets < 2 ^ 30 →
+blur_here : (octets : List ℕ) (o node : ℕ) (items : List CaptureItem) (b : Beginning) (count : CountSoFar) (g : Front) (item : DecodedItem) → length octets < 2 ^ 30 →
     grow_blur node items b count o ≡ grew g → AreMadeOf (octets ++ o ∷ []) g → blur_item_at count items b o ≡ Some item → IsItemOctet octets o item
 blur_here octets o node items b Nothing g item short e n i = absurd (no_item item i)
 blur_here octets o node items b (One a) g item short e n i = absurd (no_item item i)
@@ -141,7 +141,7 @@ blur_here octets o node items b (Three a c d) g item short e n i =
     let t = item_unless (needs_blur b && (count_of a c d o == 0))
     (TornItem (ticks_of items) (ticks_of items + (4 * symbol_count b + count_of a c d o)) (symbol_count b) (count_of a c d o)) item i in
     let u = unstopped (needs_blur b && (count_of a c d o == 0)) (grew (behind node (items ++ Torn b (count_of a c d o) ∷ []) after_torn)) CountZero g e in
-    subst (λ (x : Handed). IsItemOctet octets o x) t.1
+    subst (λ (x : DecodedItem). IsItemOctet octets o x) t.1
     (record {
       node = node;
       items = items;
@@ -153,7 +153,7 @@ blur_here octets o node items b (Three a c d) g item short e n i =
       counted = refl;
     })
 
-pub handed_here : (octets : List ℕ) (f g : Front) (o : ℕ) (item : Handed) → length octets < 2 ^ 30 → o < 256 → AreMadeOf octets f → grow f o ≡ grew g →
+pub handed_here : (octets : List ℕ) (f g : Front) (o : ℕ) (item : DecodedItem) → length octets < 2 ^ 30 → o < 256 → AreMadeOf octets f → grow f o ≡ grew g →
     item_at f o ≡ Some item → IsItemOctet octets o item
 handed_here octets (in_magic n) g o item short low m e i = absurd (no_item item i)
 handed_here octets at_version g o item short low m e i = absurd (no_item item i)
@@ -169,7 +169,7 @@ handed_here octets (behind node items ended) g o item short low m e i = absurd (
 -- ---- an item at its octet is handed out
 
 -- the item is handed out there
-pub record Hands (f : Front) (o : ℕ) (item : Handed) : Type 0 where
+pub record Hands (f : Front) (o : ℕ) (item : DecodedItem) : Type 0 where
   pub grown_to : Front
   pub grows : grow f o ≡ grew grown_to
   pub hands : item_at f o ≡ Some item
@@ -190,11 +190,11 @@ at_end node items b e = record {
   hands = rw e refl;
 }
 
-burst_handed : (octets : List ℕ) (f : Front) (o : ℕ) (item : Handed) → AreMadeOf octets f → IsBurstOctet octets o item → Hands f o item
+burst_handed : (octets : List ℕ) (f : Front) (o : ℕ) (item : DecodedItem) → AreMadeOf octets f → IsBurstOctet octets o item → Hands f o item
 burst_handed octets f o item m h =
     let e : behind h.node h.items (in_burst h.symbols) ≡ f = made_once octets (behind h.node h.items (in_burst h.symbols)) f h.made m in
     let whole : ends_burst (phase_of h.symbols) ≡ true = burst_ends h.symbols (begun h.items h.symbols h.made.in_range.1) h.burst in
-    subst (λ (x : Front). Hands x o item) e (subst (λ (i : Handed). Hands (behind h.node h.items (in_burst h.symbols)) o i) (sym h.is)
+    subst (λ (x : Front). Hands x o item) e (subst (λ (i : DecodedItem). Hands (behind h.node h.items (in_burst h.symbols)) o i) (sym h.is)
     (by_next h.next whole))
   where
     by_next : (o ≡ 0x20) ⊎ (o ≡ 0x21) → ends_burst (phase_of h.symbols) ≡ true → Hands (behind h.node h.items (in_burst h.symbols)) o (burst_item (ticks_of h.items) h.symbols)
@@ -202,11 +202,11 @@ burst_handed octets f o item m h =
     by_next (inr is) w = subst (λ (x : ℕ). Hands (behind h.node h.items (in_burst h.symbols)) x (burst_item (ticks_of h.items) h.symbols)) (sym is) (at_end h.node h.items h.symbols w)
 
 -- the item of the piece that has ended last
-abbrev pub last_piece_item : List CaptureItem → List Piece → Piece → Handed
+abbrev pub last_piece_item : List CaptureItem → List Piece → Piece → DecodedItem
 last_piece_item items ps p =
     PieceItem (ticks_of items + 4 * length (pieces_symbols ps)) (view_of (descrambler_after (history_behind items) (pieces_nibbles ps)) p)
 
-abbrev pub PieceGrown : List CaptureItem → List Piece → Piece → Option Handed → Type 0
+abbrev pub PieceGrown : List CaptureItem → List Piece → Piece → Option DecodedItem → Type 0
 PieceGrown items ps p item = item ≡ Some (last_piece_item items ps p)
 
 abbrev pub piece_front : ℕ → List CaptureItem → List Piece → Piece → Front
@@ -331,7 +331,7 @@ piece_grown (behind node' items' after_torn) o node items ps p e = by_mark (mark
 piece_grown (behind node' items' ended) o node items ps p e = cc
 
 -- the item of a torn burst
-abbrev pub TornGrown : List CaptureItem → Beginning → ℕ → Option Handed → Type 0
+abbrev pub TornGrown : List CaptureItem → Beginning → ℕ → Option DecodedItem → Type 0
 TornGrown items b n item = item ≡ Some (TornItem (ticks_of items) (ticks_of items + (4 * symbol_count b + n)) (symbol_count b) n)
 
 abbrev pub torn_front : ℕ → List CaptureItem → Beginning → ℕ → Front
@@ -400,7 +400,7 @@ piece_handed octets f o start view m h =
     record {
       grown_to = piece_front h.node h.items h.pieces h.piece;
       grows = e;
-      hands = piece_grown f o h.node h.items h.pieces h.piece e ∙ ap (λ (i : Handed). Some i) is;
+      hands = piece_grown f o h.node h.items h.pieces h.piece e ∙ ap (λ (i : DecodedItem). Some i) is;
     }
 
 torn_handed : (octets : List ℕ) (f : Front) (o start end symbols blur : ℕ) → AreMadeOf octets f → IsTornOctet octets o start end symbols blur → Hands f o (TornItem start end symbols blur)
@@ -413,10 +413,10 @@ torn_handed octets f o start end symbols blur m h =
     record {
       grown_to = torn_front h.node h.items h.begun blur;
       grows = e;
-      hands = torn_grown f o h.node h.items h.begun blur e ∙ ap (λ (i : Handed). Some i) is;
+      hands = torn_grown f o h.node h.items h.begun blur e ∙ ap (λ (i : DecodedItem). Some i) is;
     }
 
-pub hands_here : (octets : List ℕ) (f : Front) (o : ℕ) (item : Handed) → AreMadeOf octets f → IsItemOctet octets o item → Hands f o item
+pub hands_here : (octets : List ℕ) (f : Front) (o : ℕ) (item : DecodedItem) → AreMadeOf octets f → IsItemOctet octets o item → Hands f o item
 hands_here octets f o (PieceItem start view) m h = piece_handed octets f o start view m h
 hands_here octets f o (BeaconItem start) m h = burst_handed octets f o (BeaconItem start) m h
 hands_here octets f o (RunItem start end pieces) m h = burst_handed octets f o (RunItem start end pieces) m h
@@ -424,7 +424,7 @@ hands_here octets f o (BareItem start end) m h = burst_handed octets f o (BareIt
 hands_here octets f o (TornItem start end symbols blur) m h = torn_handed octets f o start end symbols blur m h
 
 -- the octets before an item's octet are within the limit
-pub item_within : (octets : List ℕ) (o : ℕ) (item : Handed) → IsItemOctet octets o item → length octets < 2 ^ 30
+pub item_within : (octets : List ℕ) (o : ℕ) (item : DecodedItem) → IsItemOctet octets o item → length octets < 2 ^ 30
 item_within octets o (PieceItem start view) h = h.within_limit
 item_within octets o (BeaconItem start) h = h.within_limit
 item_within octets o (RunItem start end pieces) h = h.within_limit
@@ -434,7 +434,7 @@ item_within octets o (TornItem start end symbols blur) h = h.within_limit
 -- ---- an octet hands out one item at most
 
 -- where it is known what the octets before it are made of
-one_by_front : (octets : List ℕ) (f : Front) (o : ℕ) (x y : Handed) → AreMadeOf octets f → IsItemOctet octets o x → IsItemOctet octets o y → x ≡ y
+one_by_front : (octets : List ℕ) (f : Front) (o : ℕ) (x y : DecodedItem) → AreMadeOf octets f → IsItemOctet octets o x → IsItemOctet octets o y → x ≡ y
 one_by_front octets f o x y m h k =
     let a = hands_here octets f o x m h in let b = hands_here octets f o y m k in same_item x y (sym a.hands ∙ b.hands)
 
@@ -479,7 +479,7 @@ one_torn octets o start start' end end' symbols symbols' blur blur' h k =
     let f = k.counted in
     cc
 
-pub one_item : (octets : List ℕ) (o : ℕ) (x y : Handed) → IsItemOctet octets o x → IsItemOctet octets o y → x ≡ y
+pub one_item : (octets : List ℕ) (o : ℕ) (x y : DecodedItem) → IsItemOctet octets o x → IsItemOctet octets o y → x ≡ y
 one_item octets o (BeaconItem start) y h k = one_by_front octets (behind h.node h.items (in_burst h.symbols)) o (BeaconItem start) y h.made h k
 one_item octets o (RunItem start end pieces) y h k = one_by_front octets (behind h.node h.items (in_burst h.symbols)) o (RunItem start end pieces) y h.made h k
 one_item octets o (BareItem start end) y h k = one_by_front octets (behind h.node h.items (in_burst h.symbols)) o (BareItem start end) y h.made h k

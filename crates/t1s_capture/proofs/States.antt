@@ -31,7 +31,7 @@ use Rattle.t1s_capture.specs.Captures.{CaptureItem, Gap, Burst, Torn, magic, no_
 use Rattle.t1s_capture.specs.Pieces.{pieces_nibbles, nibbles_in, history_behind, piece_views, views_of, is_good, is_beacon, is_run, is_bare, is_torn, counts_with}
 use Rattle.t1s_capture.specs.Fronts.{Tail, in_gap, in_burst, in_blur, after_torn, ended, Front, in_magic, at_version, at_node, behind, IsFront}
 use Rattle.t1s_capture.specs.State.{DecoderState}
-use Rattle.t1s_capture.specs.Handed.{Handed, BeaconItem, RunItem, BareItem, TornItem, burst_item}
+use Rattle.t1s_capture.specs.DecodedItems.{DecodedItem, BeaconItem, RunItem, BareItem, TornItem, burst_item}
 use Rattle.t1s_capture.specs.Advance.{mark, count_of, progress_of, refuses, goes, hands, behind_octet, no_burst, with_ticks, with_torn, with_piece, with_beacon, with_bare, with_run, with_whole, whole_item, magic_step, version_step, node_step, gap_step, gap_ends, blur_step, blur_ends, burst_step_by, gap_here, end_here, burst_ends, symbol_judged, symbol_taken, piece_ends, longer, torn_step_by, stage_step}
 use Rattle.t1s_capture.specs.Stands.{ends_with_gap, needs_blur, burst_stage, tail_stage, tail_symbols, kept_of, tail_kept, views_at, counts_at, reader_at, header_state, state_of}
 use Rattle.t1s_capture.proofs.Growth.{Taken, more, none_before}
@@ -42,7 +42,7 @@ use Rattle.t1s_capture.proofs.Grow.{Grew, grew, fails, grow, grow_magic, grow_ve
 use Rattle.t1s_capture.proofs.Sound.{begun, none_begun}
 
 -- the answer that what has grown and the item there call for
-abbrev pub answer : ℕ → Grew → Option Handed → Next
+abbrev pub answer : ℕ → Grew → Option DecodedItem → Next
 answer taken (Err why) item = Refused (record { offset = taken; why = why })
 answer taken (Ok g) None = More (state_of (taken + 1) g)
 answer taken (Ok g) (Some item) = Held (record { item = item; decoder = state_of (taken + 1) g })
@@ -59,7 +59,7 @@ same_state taken c c' h h' k k' s s' ec eh ek es = cc
 goes_to : (d e : DecoderState) → d ≡ e → More d ≡ More e
 goes_to d e h = ap More h
 
-hands_to : (i j : Handed) (d e : DecoderState) → i ≡ j → d ≡ e → Held (record { item = i; decoder = d }) ≡ Held (record { item = j; decoder = e })
+hands_to : (i j : DecodedItem) (d e : DecoderState) → i ≡ j → d ≡ e → Held (record { item = i; decoder = d }) ≡ Held (record { item = j; decoder = e })
 hands_to i j d e h k = cc
 
 -- what a decoder keeps beside its stage, behind these items

@@ -11,11 +11,11 @@ use Rattle.t1s_capture.specs.declared.decoder.Next.TheVariants.{More, Refused}
 use Rattle.t1s_capture.specs.Captures.{CaptureItem, IsCapture, IsCapturePrefix}
 use Rattle.t1s_capture.specs.Pieces.{counts_with, counts_of}
 use Rattle.t1s_capture.specs.Fronts.{in_gap, in_burst, in_blur, after_torn, ended, Front, in_magic, at_version, at_node, behind, AreMadeOf}
-use Rattle.t1s_capture.specs.Handed.{Handed, IsItemOctet}
+use Rattle.t1s_capture.specs.DecodedItems.{DecodedItem, IsItemOctet}
 use Rattle.t1s_capture.specs.State.{DecoderState}
 use Rattle.t1s_capture.specs.Offences.{IsFirstOf, reasons, IsFirstOffence}
 use Rattle.t1s_capture.specs.Stands.{state_of, counts_at, Stands}
-use Rattle.t1s_capture.specs.Answers.{HandsOut, StandsAfter, IsCountedCapture}
+use Rattle.t1s_capture.specs.Answers.{YieldsItem, StandsAfter, IsCountedCapture}
 use Rattle.t1s_capture.specs.Advance.{advance, stage_step, progress_of, finished}
 use Rattle.t1s_capture.proofs.Counted.{views_rest}
 use Rattle.t1s_capture.proofs.Grow.{Grew, grew, fails, grow, item_at}
@@ -66,25 +66,25 @@ below octets le e = let differs = eqb-false (length octets) (2 ^ 30) e in omega 
 
 -- ---- the item
 
-module _ (octets : List ℕ) (o : ℕ) (f : Front) (m : AreMadeOf octets f) (low : o < 256) (item : Handed) where
-  item_answer : length octets < 2 ^ 30 → (r : Grew) (i : Option Handed) → grow f o ≡ r → item_at f o ≡ i →
-      HandsOut (answer (length octets) r i) item ↔ IsItemOctet octets o item
+module _ (octets : List ℕ) (o : ℕ) (f : Front) (m : AreMadeOf octets f) (low : o < 256) (item : DecodedItem) where
+  item_answer : length octets < 2 ^ 30 → (r : Grew) (i : Option DecodedItem) → grow f o ≡ r → item_at f o ≡ i →
+      YieldsItem (answer (length octets) r i) item ↔ IsItemOctet octets o item
   item_answer short (Err why) i e k = (λ h. absurd h, λ h. let t = hands_here octets f o item m h in no_front why t.grown_to (sym e ∙ t.grows))
   item_answer short (Ok g) None e k = (λ h. absurd h, λ h. let t = hands_here octets f o item m h in let x = sym k ∙ t.hands in cc)
   item_answer short (Ok g) (Some x) e k = (
-    λ h. handed_here octets f g o item short low m e (k ∙ ap (λ (y : Handed). Some y) h),
+    λ h. handed_here octets f g o item short low m e (k ∙ ap (λ (y : DecodedItem). Some y) h),
     λ h. let t = hands_here octets f o item m h in let y = sym k ∙ t.hands in cc,
   )
 
   item_by : (p : Bool) → (length octets == 2 ^ 30) ≡ p → length octets ≤ 2 ^ 30 →
-      HandsOut (if p then Refused (record { offset = length octets; why = TooLong }) else answer (length octets) (grow f o) (item_at f o)) item ↔ IsItemOctet octets o item
+      YieldsItem (if p then Refused (record { offset = length octets; why = TooLong }) else answer (length octets) (grow f o) (item_at f o)) item ↔ IsItemOctet octets o item
   item_by true e le =
       (λ h. absurd h, λ h. let lt : length octets < 2 ^ 30 = item_within octets o item h in let is = eqb-true (length octets) (2 ^ 30) e in absurd (omega arith))
   item_by false e le = item_answer (below octets le e) (grow f o) (item_at f o) refl refl
 
-pub step_item : (octets : List ℕ) (o : ℕ) (d : DecoderState) → Stands octets d → o < 256 → (item : Handed) → HandsOut (advance d o) item ↔ IsItemOctet octets o item
+pub step_item : (octets : List ℕ) (o : ℕ) (d : DecoderState) → Stands octets d → o < 256 → (item : DecodedItem) → YieldsItem (advance d o) item ↔ IsItemOctet octets o item
 step_item octets o d s low item =
-    subst (λ (x : Next). HandsOut x item ↔ IsItemOctet octets o item) (sym (advances octets o d s))
+    subst (λ (x : Next). YieldsItem x item ↔ IsItemOctet octets o item) (sym (advances octets o d s))
     (item_by octets o s.front s.made low item (length octets == 2 ^ 30) refl s.limit)
 
 -- ---- the refusal
@@ -117,7 +117,7 @@ module _ (octets : List ℕ) (o : ℕ) (f : Front) (m : AreMadeOf octets f) (low
   reason_of : (why : Why) → length octets < 2 ^ 30 → grow f o ≡ fails why → IsFirstOf reasons octets o why
   reason_of why short e = inr ((λ (k : length octets ≡ 2 ^ 30). let z : ⊥ = omega arith in z), first_reason octets f o why m e)
 
-  refused_answer : length octets < 2 ^ 30 → (x : Grew) (i : Option Handed) → grow f o ≡ x → (answer (length octets) x i ≡ Refused r) ↔ OffendsAt octets o r
+  refused_answer : length octets < 2 ^ 30 → (x : Grew) (i : Option DecodedItem) → grow f o ≡ x → (answer (length octets) x i ≡ Refused r) ↔ OffendsAt octets o r
   refused_answer short (Err why) i e = (
     λ h.
         let is : ◌≡◌ {A = Refusal} (record { offset = length octets; why = why }) r = cc in
@@ -165,7 +165,7 @@ module _ (octets : List ℕ) (o : ℕ) (f : Front) (m : AreMadeOf octets f) (low
         keeps = ap (λ (t : ℕ). state_of t g) (sym long);
       }
 
-  stands_answer : length octets < 2 ^ 30 → (r : Grew) (i : Option Handed) → grow f o ≡ r → StandsAfter (octets ++ o ∷ []) (answer (length octets) r i)
+  stands_answer : length octets < 2 ^ 30 → (r : Grew) (i : Option DecodedItem) → grow f o ≡ r → StandsAfter (octets ++ o ∷ []) (answer (length octets) r i)
   stands_answer short (Err why) i e = tt
   stands_answer short (Ok g) None e = next_stands g short e
   stands_answer short (Ok g) (Some y) e = next_stands g short e

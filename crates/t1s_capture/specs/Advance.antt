@@ -27,7 +27,7 @@ use Rattle.t1s_capture.specs.declared.decoder.Next.TheVariants.{More, Held, Refu
 use Rattle.t1s_capture.specs.Captures.{magic}
 use Rattle.t1s_capture.specs.Pieces.{is_good}
 use Rattle.t1s_capture.specs.State.{ReaderState, DecoderState}
-use Rattle.t1s_capture.specs.Handed.{Handed, PieceItem, BeaconItem, RunItem, BareItem, TornItem}
+use Rattle.t1s_capture.specs.DecodedItems.{DecodedItem, PieceItem, BeaconItem, RunItem, BareItem, TornItem}
 
 -- ---- the reader of pieces
 
@@ -138,7 +138,7 @@ behind_octet p counts reader stage = record { taken = p.taken + 1; counts = coun
 abbrev pub goes : Progress → Stage → Next
 goes p stage = More (behind_octet p p.counts p.reader stage)
 
-abbrev pub hands : Handed → Progress → Counts → ReaderState → Stage → Next
+abbrev pub hands : DecodedItem → Progress → Counts → ReaderState → Stage → Next
 hands item p counts reader stage = Held (record { item = item; decoder = behind_octet p counts reader stage })
 
 -- ---- the header
@@ -192,7 +192,7 @@ blur_step p blur d = blur_step_by blur.count p blur d
 -- ---- bursts
 
 -- the item of a whole burst, by how many pieces it has and how many J stand behind these
-abbrev pub whole_item : ℕ → ℕ → ℕ → ℕ → Handed
+abbrev pub whole_item : ℕ → ℕ → ℕ → ℕ → DecodedItem
 whole_item pieces lead start end =
     if pieces == 0 then (if lead == 0 then BeaconItem start else BareItem start end) else RunItem start end pieces
 

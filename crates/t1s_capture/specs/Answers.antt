@@ -5,14 +5,14 @@ use Rattle.t1s_capture.specs.declared.decoder.Next.{Next}
 use Rattle.t1s_capture.specs.declared.decoder.Next.TheVariants.{More, Held, Refused}
 use Rattle.t1s_capture.specs.Captures.{CaptureItem, IsCaptureOf}
 use Rattle.t1s_capture.specs.Pieces.{counts_of}
-use Rattle.t1s_capture.specs.Handed.{Handed}
+use Rattle.t1s_capture.specs.DecodedItems.{DecodedItem}
 use Rattle.t1s_capture.specs.Stands.{Stands}
 
 -- the answer hands out this item
-abbrev pub HandsOut : Next → Handed → Type 0
-HandsOut (More decoder) item = ⊥
-HandsOut (Held held) item = held.item ≡ item
-HandsOut (Refused refusal) item = ⊥
+abbrev pub YieldsItem : Next → DecodedItem → Type 0
+YieldsItem (More decoder) item = ⊥
+YieldsItem (Held held) item = held.item ≡ item
+YieldsItem (Refused refusal) item = ⊥
 
 -- where the answer keeps a decoder, it stands for these octets
 abbrev pub StandsAfter : List ℕ → Next → Type 0

@@ -2,14 +2,14 @@ pub mod Captures
 pub mod Pieces
 pub mod Fronts
 pub mod Offences
-pub mod Handed
+pub mod DecodedItems
 pub mod State
 pub mod Stands
 pub mod Answers
 pub mod Advance
 pub mod Ranges
 pub mod Marks
-pub mod Kept
+pub mod HeldItems
 pub mod Growing
 pub mod Cut
 pub mod CutRows

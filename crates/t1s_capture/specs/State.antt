@@ -2,7 +2,7 @@
 use Rattle.std.specs.Prelude.{ℕ, Bool, List}
 use Rattle.t1s_capture.specs.declared.items.Counts.{Counts}
 use Rattle.t1s_capture.specs.declared.stage.Stage.{Stage}
-use Rattle.t1s_capture.specs.Handed.{Handed}
+use Rattle.t1s_capture.specs.DecodedItems.{DecodedItem}
 
 -- the history of the descrambler, and the nibbles that are kept of the piece that has begun: those from the tenth on
 pub record ReaderState : Type 0 where
@@ -19,5 +19,5 @@ pub record DecoderState : Type 0 where
 
 -- an item, and the decoder that goes on behind it
 pub record HeldState : Type 0 where
-  pub item : Handed
+  pub item : DecodedItem
   pub decoder : DecoderState

@@ -1,6 +1,6 @@
 //! The decoder of captures.
+use crate::held_item::HeldItem;
 use crate::items::{Counts, Item, Refusal, Why};
-use crate::kept::KeptItem;
 use crate::progress::Progress;
 use crate::reader::PieceReader;
 use crate::stage::Stage;
@@ -36,7 +36,7 @@ impl Model for Decoder {
 /// A decoder that holds an item until it is released: no octet can be fed meanwhile.
 #[derive(Drop)]
 pub struct Held {
-    item: KeptItem,
+    item: HeldItem,
     decoder: Decoder,
 }
 
@@ -45,10 +45,10 @@ impl Model for Held {
 
     ghost Value = { HeldState };
 
-    ghost use Rattle.t1s_capture.specs.Kept.{handed};
+    ghost use Rattle.t1s_capture.specs.HeldItems.{decoded_held_item};
 
     ghost view = { λ h. record {
-      item = handed h.item;
+      item = decoded_held_item h.item;
       decoder = h.decoder;
     } };
 }
@@ -69,11 +69,11 @@ impl Decoder {
     ghost use Rattle.t1s_capture.specs.declared.items.Counts.{Counts};
     ghost use Rattle.t1s_capture.specs.declared.items.Refusal.{Refusal};
     ghost use Rattle.t1s_capture.specs.Captures.{IsCapturePrefix};
-    ghost use Rattle.t1s_capture.specs.Handed.{Handed, IsItemOctet};
+    ghost use Rattle.t1s_capture.specs.DecodedItems.{DecodedItem, IsItemOctet};
     ghost use Rattle.t1s_capture.specs.Offences.{IsFirstOffence};
     ghost use Rattle.t1s_capture.specs.Stands.{Stands, state_of};
     ghost use Rattle.t1s_capture.specs.Fronts.{in_magic};
-    ghost use Rattle.t1s_capture.specs.Answers.{HandsOut, IsCountedCapture, StandsAfter};
+    ghost use Rattle.t1s_capture.specs.Answers.{YieldsItem, IsCountedCapture, StandsAfter};
     ghost use Rattle.t1s_capture.specs.Ranges.{Fits};
     ghost use Rattle.t1s_capture.specs.Advance.{advance, finished};
 
@@ -105,8 +105,8 @@ impl Decoder {
     /// is the first offence, with its offset and the first reason that holds, and otherwise the decoder goes on.
     pub fn step(self, octet: u8) -> Next
         ensures prefix { (before : List ℕ) → Stands before self → IsCapturePrefix before }
-        ensures item { (before : List ℕ) (item : Handed) → Stands before self →
-            HandsOut result item ↔ IsItemOctet before octet item }
+        ensures item { (before : List ℕ) (item : DecodedItem) → Stands before self →
+            YieldsItem result item ↔ IsItemOctet before octet item }
         ensures refused { (before : List ℕ) (r : Refusal) → Stands before self → (result ≡ Next.Refused r) ↔
             ((r.offset ≡ length before) × IsFirstOffence (before ++ octet ∷ []) r.offset r.why) }
         ensures goes_on { (before : List ℕ) → Stands before self → StandsAfter (before ++ octet ∷ []) result }
@@ -160,20 +160,20 @@ impl Decoder {
 
 impl Held {
     ghost use Rattle.std.specs.Prelude.{◌≡◌, ◌≤◌, length};
-    ghost use Rattle.t1s_capture.specs.Handed.{handed_frame};
-    ghost use Rattle.t1s_capture.specs.Kept.{handed, shown};
+    ghost use Rattle.t1s_capture.specs.DecodedItems.{frame_of_item};
+    ghost use Rattle.t1s_capture.specs.HeldItems.{decoded_held_item, decoded_item};
 
     /// An item, and the decoder behind it.
-    pub(crate) fn of(item: KeptItem, decoder: Decoder) -> Held
-        ensures { result ≡ record { item = handed item; decoder = decoder } }
+    pub(crate) fn of(item: HeldItem, decoder: Decoder) -> Held
+        ensures { result ≡ record { item = decoded_held_item item; decoder = decoder } }
     {
         Held { item, decoder }
     }
 
     /// The item that is held, lent until the decoder is released. A frame has at most 1522 octets.
     pub fn item(&self) -> Item<'_>
-        ensures item { shown result ≡ self.now.item }
-        ensures fits { length (handed_frame (shown result)) ≤ 1522 }
+        ensures item { decoded_item result ≡ self.now.item }
+        ensures fits { length (frame_of_item (decoded_item result)) ≤ 1522 }
     {
         self.item.lent()
     }

@@ -4,7 +4,7 @@
 //! each item at its octet, and refuses at the first octet that leaves the grammar. Captures stand in
 //! `specs/Captures.antt`, what octets that begin a capture are made of in `specs/Fronts.antt`, the first offence and its
 //! reasons in `specs/Offences.antt`, the pieces and counts of a capture in `specs/Pieces.antt`, the items that are handed
-//! out and their octets in `specs/Handed.antt`, what a decoder stands for in `specs/Stands.antt`, and what its answers
+//! out and their octets in `specs/DecodedItems.antt`, what a decoder stands for in `specs/Stands.antt`, and what its answers
 //! say in `specs/Answers.antt`.
 //!
 //! [`CaptureWriter`] writes a capture: the octets that it gives out are together the text of the items that `cut` in
@@ -15,8 +15,8 @@
 
 mod decoder;
 mod format;
+mod held_item;
 mod items;
-mod kept;
 pub mod laws;
 mod octets;
 mod progress;

@@ -8,13 +8,13 @@ ghost use Rattle.t1s_capture.specs.declared.stage.CountSoFar.TheVariants.{Three}
 ghost use Rattle.t1s_capture.specs.declared.stage.Stage.TheVariants.{Magic, InGap, InBurst, InBlur, AfterTorn};
 ghost use Rattle.t1s_capture.specs.Advance.{refuses, goes, behind_octet, magic_step, gap_step, gap_ends, blur_step, blur_ends, counting, burst_ends, gap_here, end_here, torn_here, symbol_taken, symbol_judged, piece_ends, burst_step_by, torn_step_by, stage_step, with_ticks, with_torn, with_piece, with_whole, whole_item};
 ghost use Rattle.t1s_capture.specs.Ranges.{Fits, FitsSymbol, StageInRange, octets_begun, octets_counted, nibbles_kept};
-ghost use Rattle.t1s_capture.specs.Kept.{handed};
+ghost use Rattle.t1s_capture.specs.HeldItems.{decoded_held_item};
 ghost use Rattle.t1s_capture.specs.Marks.{MarkInRange};
 
 use crate::decoder::{Decoder, Held, Next};
 use crate::format::VERSION;
+use crate::held_item::{HeldItem, HeldPiece};
 use crate::items::{Counts, Refusal, Why};
-use crate::kept::{KeptItem, KeptPiece};
 use crate::reader::PieceReader;
 use crate::stage::{
     BlurSoFar, BurstSoFar, CountSoFar, Mark, Stage, count_of, magic_octet, mark_of,
@@ -96,19 +96,19 @@ impl Counts {
 }
 
 /// The item of a whole burst of so many pieces and so many J behind them.
-fn whole_item(pieces: u16, lead: u16, start: u64, end: u64) -> KeptItem
-    ensures { handed result ≡ whole_item pieces lead start end }
+fn whole_item(pieces: u16, lead: u16, start: u64, end: u64) -> HeldItem
+    ensures { decoded_held_item result ≡ whole_item pieces lead start end }
 {
     if pieces != 0 {
-        KeptItem::Run {
+        HeldItem::Run {
             start,
             end,
             pieces: pieces as u64,
         }
     } else if lead != 0 {
-        KeptItem::Bare { start, end }
+        HeldItem::Bare { start, end }
     } else {
-        KeptItem::Beacon { start }
+        HeldItem::Beacon { start }
     }
 }
 
@@ -251,7 +251,7 @@ impl Progress {
         let start = self.counts.ticks;
         let lasts = SYMBOL_TICKS * blur.symbols + ticks as u64;
         self.counts = self.counts.with_ticks(lasts).with_torn();
-        let item = KeptItem::Torn {
+        let item = HeldItem::Torn {
             start,
             end: start + lasts,
             symbols: blur.symbols,
@@ -416,7 +416,7 @@ impl Progress {
         ensures { result ≡ piece_ends self lead groups (closer_symbol closer) burst }
     {
         let kind = self.reader.kind(closer);
-        let piece = KeptPiece {
+        let piece = HeldPiece {
             lead,
             groups,
             closer,
@@ -438,7 +438,7 @@ impl Progress {
             closed: symbols,
             behind_gap,
         });
-        let item = KeptItem::Piece { start, piece };
+        let item = HeldItem::Piece { start, piece };
         Next::Held(Held::of(item, self.behind_octet(stage)))
     }
 }

@@ -11,7 +11,7 @@ use Rattle.t1s_script.specs.declared.script.NodeLine.{NodeLine}
 use Rattle.t1s_segment.specs.declared.totals.NodeTotals.{NodeTotals}
 use Rattle.t1s_segment.specs.World.{totals_from, totals_below, clash_at}
 use Rattle.t1s_segment.specs.Totals.{totals_with}
-use Rattle.t1s_world.specs.Telling.{count_below}
+use Rattle.t1s_world.specs.Events.{count_below}
 
 -- the numbers rise, from a lowest one on
 abbrev pub AscendFrom : ℕ → List ℕ → Type 0

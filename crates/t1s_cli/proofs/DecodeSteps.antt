@@ -11,7 +11,7 @@ use Rattle.t1s_capture.specs.State.{DecoderState}
 use Rattle.t1s_capture.specs.Stands.{Stands, state_of}
 use Rattle.t1s_capture.specs.Fronts.{in_magic}
 use Rattle.t1s_capture.specs.Offences.{IsFirstOffence}
-use Rattle.t1s_capture.specs.Answers.{HandsOut, StandsAfter, IsCountedCapture}
+use Rattle.t1s_capture.specs.Answers.{YieldsItem, StandsAfter, IsCountedCapture}
 use Rattle.t1s_capture.specs.Advance.{advance, finished}
 use Rattle.t1s_capture.proofs.FirstOffences.{offends_at_end}
 use Rattle.t1s_capture.proofs.Steps.{begins, step_item, step_refused, step_stands, end_is, stands_new}
@@ -33,11 +33,11 @@ module _ (before : List ℕ) (octet : ℕ) (d : DecoderState) (stands : Stands b
       go (More next) e =
           Goes next []
           (subst (λ (n : Next). StandsAfter (before ++ octet ∷ []) n) e (step_stands before octet d stands low))
-          (Silent (λ item k. subst (λ (n : Next). HandsOut n item) e ((step_item before octet d stands low item).1 k)) refl)
+          (Silent (λ item k. subst (λ (n : Next). YieldsItem n item) e ((step_item before octet d stands low item).1 k)) refl)
       go (Held held) e =
           Goes held.decoder (item_line held.item)
           (subst (λ (n : Next). StandsAfter (before ++ octet ∷ []) n) e (step_stands before octet d stands low))
-          (Shown held.item ((step_item before octet d stands low held.item).0 (subst (λ (n : Next). HandsOut n held.item) (sym e) refl)) refl)
+          (Shown held.item ((step_item before octet d stands low held.item).0 (subst (λ (n : Next). YieldsItem n held.item) (sym e) refl)) refl)
       go (Refused r) e = let h = (step_refused before octet d stands low r).0 e in Offends r h.0 h.1
 
   over : 256 ≤ octet → OneMore before octet

@@ -9,7 +9,7 @@ use Rattle.t1s_capture.specs.declared.items.Why.{Why}
 use Rattle.t1s_capture.specs.Captures.{CaptureItem, IsCapture, IsCapturePrefix}
 use Rattle.t1s_capture.specs.Pieces.{counts_of}
 use Rattle.t1s_capture.specs.Offences.{IsFirstOf, reasons, Breaks, IsFirstBreak, IsFirstOffence, Broken, Overlong, Short}
-use Rattle.t1s_capture.specs.Handed.{Handed}
+use Rattle.t1s_capture.specs.DecodedItems.{DecodedItem}
 use Rattle.t1s_capture.specs.Answers.{IsCountedCapture}
 use Rattle.t1s_capture.proofs.FirstOffences.{unbroken, one_reason}
 use Rattle.t1s_capture.proofs.Whole.{readings_agree}
@@ -33,7 +33,7 @@ pub item_text_more : (before : List ℕ) (octet : ℕ) (lines line : List ℕ) �
 item_text_more before octet lines line h at = lines_more [] before (octet ∷ []) lines line h (line_one before octet line at)
 
 one_line : (before : List ℕ) (octet : ℕ) (a b : List ℕ) → IsLineAt before octet a → IsLineAt before octet b → a ≡ b
-one_line before octet a b (Shown x h e) (Shown y k f) = (e ∙ ap (λ (i : Handed). item_line i) (one_item before octet x y h k)) ∙ sym f
+one_line before octet a b (Shown x h e) (Shown y k f) = (e ∙ ap (λ (i : DecodedItem). item_line i) (one_item before octet x y h k)) ∙ sym f
 one_line before octet a b (Shown x h e) (Silent none f) = absurd (none x h)
 one_line before octet a b (Silent none e) (Shown y k f) = absurd (none y k)
 one_line before octet a b (Silent none e) (Silent none' f) = e ∙ sym f
@@ -109,21 +109,21 @@ module _ (before : List ℕ) (octet : ℕ) (more : List ℕ) where
   regroup : (before ++ octet ∷ []) ++ more ≡ before ++ octet ∷ more
   regroup = append_assoc before (octet ∷ []) more
 
-  front : (m : ℕ) → m ≤ length before + 1 → take m ((before ++ octet ∷ []) ++ more) ≡ take m (before ++ octet ∷ [])
-  front m le = take-append-le m (before ++ octet ∷ []) more (omega (arith, length-append before (octet ∷ [])))
+  prefix : (m : ℕ) → m ≤ length before + 1 → take m ((before ++ octet ∷ []) ++ more) ≡ take m (before ++ octet ∷ [])
+  prefix m le = take-append-le m (before ++ octet ∷ []) more (omega (arith, length-append before (octet ∷ [])))
 
   breaks_still : (m : ℕ) → m ≤ length before → Breaks (before ++ octet ∷ []) m → Breaks ((before ++ octet ∷ []) ++ more) m
   breaks_still m le h = record {
     within = omega (arith, h.within, length-append (before ++ octet ∷ []) more);
-    before = subst (λ (o : List ℕ). IsCapturePrefix o) (sym (front m (omega arith))) h.before;
-    after = λ k. h.after (subst (λ (o : List ℕ). IsCapturePrefix o) (front (m + 1) (omega arith)) k);
+    before = subst (λ (o : List ℕ). IsCapturePrefix o) (sym (prefix m (omega arith))) h.before;
+    after = λ k. h.after (subst (λ (o : List ℕ). IsCapturePrefix o) (prefix (m + 1) (omega arith)) k);
   }
 
   breaks_before : (m : ℕ) → m ≤ length before → Breaks ((before ++ octet ∷ []) ++ more) m → Breaks (before ++ octet ∷ []) m
   breaks_before m le h = record {
     within = omega (arith, length-append before (octet ∷ []));
-    before = subst (λ (o : List ℕ). IsCapturePrefix o) (front m (omega arith)) h.before;
-    after = λ k. h.after (subst (λ (o : List ℕ). IsCapturePrefix o) (sym (front (m + 1) (omega arith))) k);
+    before = subst (λ (o : List ℕ). IsCapturePrefix o) (prefix m (omega arith)) h.before;
+    after = λ k. h.after (subst (λ (o : List ℕ). IsCapturePrefix o) (sym (prefix (m + 1) (omega arith))) k);
   }
 
   first_still : (m : ℕ) → m ≤ length before → IsFirstBreak (before ++ octet ∷ []) m → IsFirstBreak ((before ++ octet ∷ []) ++ more) m
@@ -144,14 +144,14 @@ module _ (before : List ℕ) (octet : ℕ) (more : List ℕ) where
   pub offence_still : (why : Why) → IsFirstOffence (before ++ octet ∷ []) (length before) why → IsFirstOffence ((before ++ octet ∷ []) ++ more) (length before) why
   offence_still why (Broken short first r) =
       Broken short (first_still (length before) (omega arith) first)
-      (subst (λ (o : List ℕ). IsFirstOf reasons o (slice_index ((before ++ octet ∷ []) ++ more) (length before)) why) (sym (front (length before) (omega arith)))
+      (subst (λ (o : List ℕ). IsFirstOf reasons o (slice_index ((before ++ octet ∷ []) ++ more) (length before)) why) (sym (prefix (length before) (omega arith)))
       (subst (λ (o : ℕ). IsFirstOf reasons (take (length before) (before ++ octet ∷ [])) o why) (sym there) r))
   offence_still why (Overlong long none at is) =
       Overlong (omega (arith, length-append (before ++ octet ∷ []) more)) (λ m lt k. none m lt (first_before m (omega arith) k)) at is
   offence_still why (Short le none no_capture at is) = absurd (omega (arith, length-append before (octet ∷ [])))
 
   pub taken_before : take (length before) ((before ++ octet ∷ []) ++ more) ≡ before
-  taken_before = front (length before) (omega arith) ∙ take-append_seam before (octet ∷ [])
+  taken_before = prefix (length before) (omega arith) ∙ take-append_seam before (octet ∷ [])
 
   -- the text of octets that are refused here
   pub offence_text : (lines : List ℕ) (refusal : Refusal) → IsItemText before lines → refusal.offset ≡ length before → IsFirstOffence (before ++ octet ∷ []) refusal.offset refusal.why →

@@ -1,13 +1,13 @@
 -- How decoding goes on, and how it ends.
 use Rattle.std.proofs.Common.{◌≡◌, ◌≢◌, ℕ, ◌≤◌, ◌⊎◌, Bool, List, [], ◌∷◌, ◌++◌, length, Option, refl, sym, ap, subst, ◌∙◌, inl, inr, arith, append_assoc}
-use Rattle.t1s_base.specs.Causes.{Rose}
-use Rattle.t1s_base.specs.Octets.{Grows, GrowsByFront}
+use Rattle.t1s_base.specs.Causes.{FaultCountRose}
+use Rattle.t1s_base.specs.Octets.{Grows, GrowsByPrefix}
 use Rattle.t1s_capture.specs.declared.items.Counts.{Counts}
 use Rattle.t1s_capture.specs.declared.items.Refusal.{Refusal}
 use Rattle.t1s_capture.specs.State.{DecoderState}
 use Rattle.t1s_capture.specs.Stands.{Stands}
 use Rattle.t1s_capture.specs.Offences.{IsFirstOffence}
-use Rattle.t1s_capture.specs.Handed.{Handed, IsItemOctet}
+use Rattle.t1s_capture.specs.DecodedItems.{DecodedItem, IsItemOctet}
 use Rattle.t1s_capture.specs.Answers.{IsCountedCapture}
 use Rattle.t1s_cli.specs.declared.status.Status.{Status}
 use Rattle.t1s_cli.specs.declared.status.Status.TheVariants.{Done, Refused, ReadFault, WriteFault, Memory}
@@ -15,7 +15,7 @@ use Rattle.t1s_cli.specs.Answers.{Ends}
 use Rattle.t1s_cli.specs.DecodeText.{item_line, end_line, offence_line}
 use Rattle.t1s_cli.specs.Decoded.{IsLineAt, Shown, Silent, IsCaptureText, IsOffenceText}
 use Rattle.t1s_cli.specs.Decoding.{IsDecoding, HasDecoded, HasStopped}
-use Rattle.t1s_cli.proofs.Puts.{grows_none, grows_more, front_more, front_wider}
+use Rattle.t1s_cli.proofs.Puts.{grows_none, grows_more, prefix_more, prefix_wider}
 use Rattle.t1s_cli.proofs.DecodeText.{item_text_more, offence_text}
 use Rattle.t1s_cli.proofs.DecodeSteps.{capture_text, truncated_text, rest_text}
 
@@ -42,19 +42,19 @@ module _ {K : Type 0} (written : K → Option (List ℕ)) (faults : K → ℕ) (
           };
         }
 
-    pub silent_on : (octet : ℕ) (next : DecoderState) → Stands (octets ++ octet ∷ []) next → ((item : Handed) → IsItemOctet octets octet item → ⊥) →
+    pub silent_on : (octet : ℕ) (next : DecoderState) → Stands (octets ++ octet ∷ []) next → ((item : DecodedItem) → IsItemOctet octets octet item → ⊥) →
         IsDecoding written faults (octets ++ octet ∷ []) next first k
     silent_on octet next stands none = line_more octet next [] k stands (Silent none refl) (grows_none (written k)) refl
 
-    pub handed_on : (octet : ℕ) (next : DecoderState) (item : Handed) (k' : K) → Stands (octets ++ octet ∷ []) next → IsItemOctet octets octet item →
+    pub handed_on : (octet : ℕ) (next : DecoderState) (item : DecodedItem) (k' : K) → Stands (octets ++ octet ∷ []) next → IsItemOctet octets octet item →
         Grows (written k) (written k') (item_line item) → faults k' ≡ faults k → IsDecoding written faults (octets ++ octet ∷ []) next first k'
     handed_on octet next item k' stands at grows kept = line_more octet next (item_line item) k' stands (Shown item at refl) grows kept
 
     -- the line of the item at this octet was not taken whole
-    pub stopped_at_item : (octet : ℕ) (next : DecoderState) (item : Handed) (k' : K) → Stands (octets ++ octet ∷ []) next → IsItemOctet octets octet item →
-        GrowsByFront (written k) (written k') (item_line item) → faults k ≤ faults k' → Rose (faults k) (faults k') →
+    pub stopped_at_item : (octet : ℕ) (next : DecoderState) (item : DecodedItem) (k' : K) → Stands (octets ++ octet ∷ []) next → IsItemOctet octets octet item →
+        GrowsByPrefix (written k) (written k') (item_line item) → faults k ≤ faults k' → FaultCountRose (faults k) (faults k') →
         HasStopped written faults finished (octets ++ octet ∷ []) first k' WriteFault
-    stopped_at_item octet next item k' stands at front later rose =
+    stopped_at_item octet next item k' stands at prefix later rose =
         let s = h.shown in
         let line = item_line item in
         let kept = s.kept in
@@ -66,10 +66,10 @@ module _ {K : Type 0} (written : K → Option (List ℕ)) (faults : K → ℕ) (
                 answer = inr (inr refl);
                 done = λ e. cc;
                 refused = λ e. cc;
-                front = λ e. (
+                prefix = λ e. (
                   (s.lines ++ line) ++ tail,
                   text,
-                  front_wider (written first) (written k') (s.lines ++ line) tail (front_more (written first) (written k) (written k') s.lines line s.grows front),
+                  prefix_wider (written first) (written k') (s.lines ++ line) tail (prefix_more (written first) (written k) (written k') s.lines line s.grows prefix),
                 );
                 finish = λ e. absurd (elim e [ inl a ↦ cc | inr a ↦ cc ]);
                 later = omega arith;
@@ -90,7 +90,7 @@ module _ {K : Type 0} (written : K → Option (List ℕ)) (faults : K → ℕ) (
             answer = elim answer [ inl a ↦ inl a | inr a ↦ inr (inr a) ];
             done = λ is. (s.lines ++ tail, text, grows_more (written first) (written k) (written k') s.lines tail s.grows (e.whole_text is));
             refused = λ is. absurd (elim answer [ inl a ↦ cc | inr a ↦ cc ]);
-            front = λ is. (s.lines ++ tail, inl text, front_more (written first) (written k) (written k') s.lines tail s.grows (e.front is));
+            prefix = λ is. (s.lines ++ tail, inl text, prefix_more (written first) (written k) (written k') s.lines tail s.grows (e.prefix is));
             finish = λ w. elim w [ inl is ↦ e.end is | inr is ↦ absurd (elim answer [ inl a ↦ cc | inr a ↦ cc ]) ];
             later = omega arith;
             rose = λ is. rw s.kept at (e.rose is);
@@ -107,7 +107,7 @@ module _ {K : Type 0} (written : K → Option (List ℕ)) (faults : K → ℕ) (
             answer = elim answer [ inl a ↦ inr (inl a) | inr a ↦ inr (inr a) ];
             done = λ is. absurd (elim answer [ inl a ↦ cc | inr a ↦ cc ]);
             refused = λ is. (s.lines ++ tail, text, grows_more (written first) (written k) (written k') s.lines tail s.grows (e.whole_text is));
-            front = λ is. (s.lines ++ tail, inr text, front_more (written first) (written k) (written k') s.lines tail s.grows (e.front is));
+            prefix = λ is. (s.lines ++ tail, inr text, prefix_more (written first) (written k) (written k') s.lines tail s.grows (e.prefix is));
             finish = λ w. elim w [ inl is ↦ absurd (elim answer [ inl a ↦ cc | inr a ↦ cc ]) | inr is ↦ e.end is ];
             later = omega arith;
             rose = λ is. rw s.kept at (e.rose is);

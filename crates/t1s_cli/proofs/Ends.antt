@@ -1,7 +1,7 @@
 -- How a command ends once its text was written.
 use Rattle.std.proofs.Common.{◌≡◌, ◌≢◌, ◌⊎◌, ◌≤◌, ◌<◌, ◌==◌, ℕ, Bool, true, false, List, length, Option, Global, refl, sym, ap, ◌∙◌, inl, inr, arith, if◌then◌else◌}
 use Rattle.std.proofs.Math.Seq.{take-length}
-use Rattle.t1s_base.specs.Causes.{Rose}
+use Rattle.t1s_base.specs.Causes.{FaultCountRose}
 use Rattle.t1s_base.specs.Octets.{Grows}
 use Rattle.t1s_cli.specs.declared.status.Status.{Status}
 use Rattle.t1s_cli.specs.declared.status.Status.TheVariants.{Done, Refused, Usage, WriteFault, Memory}
@@ -24,13 +24,13 @@ use Rattle.std.specs.Prelude.{Result, Ok, Err, IsOk}
 -- the text is written when the sink is finished
 pub ends_finished : {K : Type 0} (written : K → Option (List ℕ)) (faults : K → ℕ) (finished : K → Bool) (whole : Status) (text : List ℕ) (a b c : K) (r : Status) →
     whole ≢ WriteFault → whole ≢ Memory → Grows (written a) (written b) text → faults b ≡ faults a →
-    (r ≡ whole) ⊎ (r ≡ WriteFault) → (r ≡ whole → finished c ≡ true) → written c ≡ written b → faults b ≤ faults c → (r ≡ WriteFault → Rose (faults b) (faults c)) → (r ≢ WriteFault → faults c ≡ faults b) →
+    (r ≡ whole) ⊎ (r ≡ WriteFault) → (r ≡ whole → finished c ≡ true) → written c ≡ written b → faults b ≤ faults c → (r ≡ WriteFault → FaultCountRose (faults b) (faults c)) → (r ≢ WriteFault → faults c ≡ faults b) →
     Ends written faults finished whole text a c r
 ends_finished written faults finished whole text a b c r no_fault no_want grows same why end octets later rose kept = record {
   answer = elim why [ inl e ↦ inl e | inr e ↦ inr (inl e) ];
   whole_text = λ e. octets ∙ grows;
   end = end;
-  front = λ e. (length text, rw (take-length text) (octets ∙ grows));
+  prefix = λ e. (length text, rw (take-length text) (octets ∙ grows));
   rose = λ e. rw same at (rose e);
   later = omega arith;
   kept = λ n. kept n ∙ same;
@@ -54,7 +54,7 @@ module _ {K : Type 0} (written : K → Option (List ℕ)) (faults : K → ℕ) (
   ends_refused (Ok text) h e = absurd (elim h.answer [ inl a ↦ cc | inr a ↦ elim a [ inl b ↦ cc | inr b ↦ cc ] ])
   ends_refused (Err refusal) h e = (refusal, refl, h.whole_text e)
 
-  pub ends_calm : (answer : Result (List ℕ) ScriptRefusal) (status : Status) → EndsAs answer → status_of answer ≡ status → ¬ (Rose (faults before) (faults after)) → (r ≡ status) ⊎ (r ≡ Memory)
+  pub ends_calm : (answer : Result (List ℕ) ScriptRefusal) (status : Status) → EndsAs answer → status_of answer ≡ status → ¬ (FaultCountRose (faults before) (faults after)) → (r ≡ status) ⊎ (r ≡ Memory)
   ends_calm answer status h is calm =
       elim h.answer [ inl a ↦ inl (a ∙ is) | inr a ↦ elim a [ inl b ↦ absurd (calm (h.rose b)) | inr b ↦ inr b ] ]
 

@@ -7,18 +7,18 @@ use Rattle.std.proofs.Math.Nat.{min-eq_left, min-eq_right}
 use Rattle.std.proofs.lemmas.Bool.{cases_lt}
 use Rattle.std.proofs.lemmas.List.{append-nil, take-append-le, take_all, flat_map_more}
 use Rattle.std.proofs.lemmas.Grind.{flat_map-append}
-use Rattle.t1s_world.specs.Telling.{AreTold, events_below}
-use Rattle.t1s_world.proofs.TellingLemmas.{events_below-zero, events_below-more}
+use Rattle.t1s_world.specs.Events.{SeesEvents, events_below}
+use Rattle.t1s_world.proofs.EventLemmas.{events_below-zero, events_below-more}
 use Rattle.t1s_script.specs.Script.{IsScript}
 use Rattle.t1s_script.specs.declared.script.Script.{Script}
 use Rattle.t1s_segment.specs.World.{events_at, totals_below}
 use Rattle.t1s_cli.specs.Report.{event_lines_below, event_lines, summary_below, summary, report}
-use Rattle.t1s_base.specs.Causes.{Rose}
-use Rattle.t1s_base.specs.Octets.{Grows, GrowsByFront}
-use Rattle.t1s_segment.specs.Told.{Told}
+use Rattle.t1s_base.specs.Causes.{FaultCountRose}
+use Rattle.t1s_base.specs.Octets.{Grows, GrowsByPrefix}
+use Rattle.t1s_segment.specs.EventRecords.{EventRecord}
 use Rattle.t1s_cli.specs.declared.writer.Writer.{Writer}
 use Rattle.t1s_segment.specs.declared.totals.NodeTotals.{NodeTotals}
-use Rattle.t1s_cli.specs.Text.{told_line, totals_line}
+use Rattle.t1s_cli.specs.Text.{event_line, totals_line}
 use Rattle.t1s_cli.proofs.Ascending.{AscendFrom, numbers, nodes_below, none_below, one_more_below, totals_all_below}
 use Rattle.t1s_cli.specs.Writing.{Puts}
 
@@ -42,13 +42,13 @@ take_within a b n = elim (cases_lt n (length a)) [
   | inr le ↦ rw (min-eq_right {n = length a} {m = n} le, take-append_seam a b) (sym (take_all n a le))
 ]
 
--- all of one text and a front of the next
-pub front_more : (o p q : Option (List ℕ)) (a b : List ℕ) → Grows o p a → GrowsByFront p q b → GrowsByFront o q (a ++ b)
-front_more o p q a b h (n, k) = (length a + n, rw (take-append-add a b n) (grows_more o p q a (take n b) h k))
+-- all of one text and a prefix of the next
+pub prefix_more : (o p q : Option (List ℕ)) (a b : List ℕ) → Grows o p a → GrowsByPrefix p q b → GrowsByPrefix o q (a ++ b)
+prefix_more o p q a b h (n, k) = (length a + n, rw (take-append-add a b n) (grows_more o p q a (take n b) h k))
 
--- a front of the first text
-pub front_wider : (o p : Option (List ℕ)) (a b : List ℕ) → GrowsByFront o p a → GrowsByFront o p (a ++ b)
-front_wider o p a b (n, k) = (min n (length a), rw (take_within a b n) k)
+-- a prefix of the first text
+pub prefix_wider : (o p : Option (List ℕ)) (a b : List ℕ) → GrowsByPrefix o p a → GrowsByPrefix o p (a ++ b)
+prefix_wider o p a b (n, k) = (min n (length a), rw (take_within a b n) k)
 
 pub events_prefix : {E : Type 0} (events : ℕ → List E) (t d : ℕ) → (rest : List E) × (events_below events (t + d) ≡ events_below events t ++ rest)
 events_prefix {E} events t zero = ([], rw (add-zero, append-nil (events_below events t)) refl)
@@ -64,7 +64,7 @@ module _ {K : Type 0} (written : K → Option (List ℕ)) (faults : K → ℕ) w
     later = omega arith;
     idle = λ e. (e, refl);
     whole = λ e f. (grows_none (written w.sink.now), refl);
-    front = λ e f. absurd cc;
+    prefix = λ e f. absurd cc;
   }
 
   pub puts_more : (w u v : Writer K) (a b : List ℕ) → Puts written faults w a u → Puts written faults u b v → Puts written faults w (a ++ b) v
@@ -79,22 +79,22 @@ module _ {K : Type 0} (written : K → Option (List ℕ)) (faults : K → ℕ) w
           let (q, n) = k.whole g f in
           (grows_more (written w.sink.now) (written u.sink.now) (written v.sink.now) a b p q, n ∙ m)
     ] refl;
-    front = λ e f. elim u.stopped as (λ x. u.stopped ≡ x → GrowsByFront (written w.sink.now) (written v.sink.now) (a ++ b) × Rose (faults w.sink.now) (faults v.sink.now)) [
+    prefix = λ e f. elim u.stopped as (λ x. u.stopped ≡ x → GrowsByPrefix (written w.sink.now) (written v.sink.now) (a ++ b) × FaultCountRose (faults w.sink.now) (faults v.sink.now)) [
       | true ↦ λ g.
           let (t, j) = k.idle g in
-          let (p, m) = h.front e g in
-          rw j (front_wider (written w.sink.now) (written u.sink.now) a b p, m)
+          let (p, m) = h.prefix e g in
+          rw j (prefix_wider (written w.sink.now) (written u.sink.now) a b p, m)
       | false ↦ λ g.
           let (p, m) = h.whole e g in
-          let (q, n) = k.front g f in
-          (front_more (written w.sink.now) (written u.sink.now) (written v.sink.now) a b p q, rw m at n)
+          let (q, n) = k.prefix g f in
+          (prefix_more (written w.sink.now) (written u.sink.now) (written v.sink.now) a b p q, rw m at n)
     ] refl;
   }
 
   -- the lines of events that were told one after another
-  pub puts_told : (w v : Writer K) (es : List Told) → AreTold (λ (before : Writer K) (event : Told) (after : Writer K). Puts written faults before (told_line event) after) w es v → Puts written faults w (flat_map told_line es) v
+  pub puts_told : (w v : Writer K) (es : List EventRecord) → SeesEvents (λ (before : Writer K) (event : EventRecord) (after : Writer K). Puts written faults before (event_line event) after) w es v → Puts written faults w (flat_map event_line es) v
   puts_told w v [] e = rw e (puts_none w)
-  puts_told w v (e ∷ es) (u, h, k) = puts_more w u v (told_line e) (flat_map told_line es) h (puts_told u v es k)
+  puts_told w v (e ∷ es) (u, h, k) = puts_more w u v (event_line e) (flat_map event_line es) h (puts_told u v es k)
 
   -- the totals of the nodes with a number below i are written so far
   pub summary_begins : (w v : Writer K) (x : List ℕ) (ns : List NodeTotals) → AscendFrom 0 (numbers ns) → Puts written faults w x v → Puts written faults w (x ++ flat_map totals_line (nodes_below 0 ns)) v
@@ -118,10 +118,10 @@ module _ {K : Type 0} (written : K → Option (List ℕ)) (faults : K → ℕ) w
   pub puts_no_tick : (s : Script) (w : Writer K) → Puts written faults w (event_lines_below s 0) w
   puts_no_tick s w = rw (events_below-zero (events_at s)) (puts_none w)
 
-  pub puts_tick : (s : Script) (t : ℕ) (w u v : Writer K) → Puts written faults w (event_lines_below s t) u → AreTold (λ (before : Writer K) (event : Told) (after : Writer K). Puts written faults before (told_line event) after) u (events_at s t) v → Puts written faults w (event_lines_below s (t + 1)) v
+  pub puts_tick : (s : Script) (t : ℕ) (w u v : Writer K) → Puts written faults w (event_lines_below s t) u → SeesEvents (λ (before : Writer K) (event : EventRecord) (after : Writer K). Puts written faults before (event_line event) after) u (events_at s t) v → Puts written faults w (event_lines_below s (t + 1)) v
   puts_tick s t w u v p told =
-      rw (events_below-more (events_at s) t, flat_map-append told_line (events_below (events_at s) t) (events_at s t))
-      (puts_more w u v (event_lines_below s t) (flat_map told_line (events_at s t)) p (puts_told u v (events_at s t) told))
+      rw (events_below-more (events_at s) t, flat_map-append event_line (events_below (events_at s) t) (events_at s t))
+      (puts_more w u v (event_lines_below s t) (flat_map event_line (events_at s t)) p (puts_told u v (events_at s t) told))
 
   -- after a stop the rest of the text is not written
   pub puts_stopped : (w u v : Writer K) (a b c : List ℕ) → u.stopped ≡ true → Puts written faults w a u → Puts written faults u b v → Puts written faults w (a ++ c) v
@@ -130,10 +130,10 @@ module _ {K : Type 0} (written : K → Option (List ℕ)) (faults : K → ℕ) w
     later = omega (arith, h.later, k.later);
     idle = λ e. let (s, i) = h.idle e in let (t, j) = k.idle s in (t, j ∙ i);
     whole = λ e f. absurd (let (t, j) = k.idle stop in cc);
-    front = λ e f.
+    prefix = λ e f.
         let (t, j) = k.idle stop in
-        let (p, m) = h.front e stop in
-        rw j (front_wider (written w.sink.now) (written u.sink.now) a c p, m);
+        let (p, m) = h.prefix e stop in
+        rw j (prefix_wider (written w.sink.now) (written u.sink.now) a c p, m);
   }
 
   -- the whole report, where the run was played to its end or the writer stopped in it
@@ -143,8 +143,8 @@ module _ {K : Type 0} (written : K → Option (List ℕ)) (faults : K → ℕ) w
         let (rest, more) = events_prefix (events_at s) t (s.end - t) in
         let same : t + (s.end - t) ≡ s.end = omega arith in
         let whole : events_below (events_at s) s.end ≡ events_below (events_at s) t ++ rest = rw same at more in
-        rw (whole, flat_map-append told_line (events_below (events_at s) t) rest, append_assoc (event_lines_below s t) (flat_map told_line rest) (summary s))
-        (puts_stopped w u v (event_lines_below s t) (summary_below s t) (flat_map told_line rest ++ summary s) stop h k)
+        rw (whole, flat_map-append event_line (events_below (events_at s) t) rest, append_assoc (event_lines_below s t) (flat_map event_line rest) (summary s))
+        (puts_stopped w u v (event_lines_below s t) (summary_below s t) (flat_map event_line rest ++ summary s) stop h k)
     | inr e ↦
         let all = rw e at h in
         let last = rw e at k in

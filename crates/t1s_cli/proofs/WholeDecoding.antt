@@ -2,8 +2,8 @@
 use Rattle.std.proofs.Common.{◌≡◌, ◌≢◌, ℕ, ◌^◌, ◌≤◌, ◌⊎◌, Bool, true, List, [], ◌++◌, length, Option, Some, None, refl, sym, ap, subst, ◌∙◌, inl, inr, arith}
 use Rattle.std.specs.Prelude.{◌↔◌, IfSome}
 use Rattle.std.proofs.lemmas.List.{append-nil}
-use Rattle.t1s_base.specs.Causes.{Rose}
-use Rattle.t1s_base.specs.Octets.{Gives, Grows, GrowsByFront}
+use Rattle.t1s_base.specs.Causes.{FaultCountRose}
+use Rattle.t1s_base.specs.Octets.{Gives, Grows, GrowsByPrefix}
 use Rattle.t1s_capture.specs.declared.items.Refusal.{Refusal}
 use Rattle.t1s_capture.specs.State.{DecoderState}
 use Rattle.t1s_capture.specs.Captures.{IsCapture, IsCapturePrefix}
@@ -105,7 +105,7 @@ module _ {S K : Type 0} (left : S → Option (List ℕ)) (written : K → Option
     pub finishes : (status ≡ Done) ⊎ (status ≡ Refused) → finished k' ≡ true
     finishes w = (d.ended (λ f. elim w [ inl a ↦ cc | inr a ↦ cc ])).finish w
 
-    pub rises : status ≡ WriteFault → Rose (faults k) (faults k')
+    pub rises : status ≡ WriteFault → FaultCountRose (faults k) (faults k')
     rises e = (d.ended (λ f. cc)).rose e
 
     all_octets : (octets : List ℕ) → left s ≡ Some octets → octets ≡ d.taken ++ d.beyond
@@ -124,8 +124,8 @@ module _ {S K : Type 0} (left : S → Option (List ℕ)) (written : K → Option
     pub says_refused : (octets : List ℕ) → left s ≡ Some octets → status ≡ Refused → (text : List ℕ) × IsOffenceText octets text × Grows (written k) (written k') text
     says_refused octets told e = (ended_of_all octets told (λ f. cc)).refused e
 
-    pub says_front : (octets : List ℕ) → left s ≡ Some octets → status ≡ WriteFault → (text : List ℕ) × IsDecodedText octets text × GrowsByFront (written k) (written k') text
-    says_front octets told e = (ended_of_all octets told (λ f. cc)).front e
+    pub says_prefix : (octets : List ℕ) → left s ≡ Some octets → status ≡ WriteFault → (text : List ℕ) × IsDecodedText octets text × GrowsByPrefix (written k) (written k') text
+    says_prefix octets told e = (ended_of_all octets told (λ f. cc)).prefix e
 
     pub says_failed : status ≡ ReadFault → (taken : List ℕ) × (text : List ℕ) × Gives (left s) (left s') taken × IsCapturePrefix taken × IsItemText taken text × Grows (written k) (written k') text
     says_failed e =
@@ -139,7 +139,7 @@ module _ {S K : Type 0} (left : S → Option (List ℕ)) (written : K → Option
         go None gives rest = cc
         go (Some more) gives rest = ap Some (sym rest ∙ d.whole e)
 
-    pub capture_done : (octets : List ℕ) → left s ≡ Some octets → IsCapture octets → length octets ≤ 2 ^ 30 → status ≢ ReadFault → ¬ (Rose (faults k) (faults k')) → status ≡ Done
+    pub capture_done : (octets : List ℕ) → left s ≡ Some octets → IsCapture octets → length octets ≤ 2 ^ 30 → status ≢ ReadFault → ¬ (FaultCountRose (faults k) (faults k')) → status ≡ Done
     capture_done octets told capture within n calm =
         let h = ended_of_all octets told n in
         elim h.answer [
@@ -150,7 +150,7 @@ module _ {S K : Type 0} (left : S → Option (List ℕ)) (written : K → Option
           ]
         ]
 
-    pub offence_refused : (octets : List ℕ) (refusal : Refusal) → left s ≡ Some octets → IsFirstOffence octets refusal.offset refusal.why → status ≢ ReadFault → ¬ (Rose (faults k) (faults k')) → status ≡ Refused
+    pub offence_refused : (octets : List ℕ) (refusal : Refusal) → left s ≡ Some octets → IsFirstOffence octets refusal.offset refusal.why → status ≢ ReadFault → ¬ (FaultCountRose (faults k) (faults k')) → status ≡ Refused
     offence_refused octets refusal told offence n calm =
         let h = ended_of_all octets told n in
         elim h.answer [

@@ -3,8 +3,8 @@ use Rattle.std.specs.Prelude.{◌≡◌, ◌≢◌, ◌⊎◌, ℕ, ◌≤◌, �
 use Rattle.std.specs.List.{list_any}
 use Rattle.std.specs.declared.string.String.{String}
 use Rattle.std.proofs.Common.{Global}
-use Rattle.t1s_base.specs.Causes.{Rose}
-use Rattle.t1s_base.specs.Octets.{Grows, GrowsByFront}
+use Rattle.t1s_base.specs.Causes.{FaultCountRose}
+use Rattle.t1s_base.specs.Octets.{Grows, GrowsByPrefix}
 use Rattle.t1s_script.specs.Reading.{script_of}
 use Rattle.t1s_script.specs.declared.script.NodeLine.{NodeLine}
 use Rattle.t1s_script.specs.declared.script.Script.{Script}
@@ -57,14 +57,14 @@ abbrev pub status_of : Result (List ℕ) ScriptRefusal → Status
 status_of (Ok text) = Done
 status_of (Err refusal) = Refused
 
--- A text was written and the sink finished, which `whole` answers; or the sink failed, and a front of the
+-- A text was written and the sink finished, which `whole` answers; or the sink failed, and a prefix of the
 -- text stands written; or memory was wanting before the first octet.
 pub record Ends {K : Type 0} (written : K → Option (List ℕ)) (faults : K → ℕ) (finished : K → Bool) (whole : Status) (text : List ℕ) (before after : K) (result : Status) : Type 0 where
   pub answer : (result ≡ whole) ⊎ ((result ≡ WriteFault) ⊎ (result ≡ Memory))
   pub whole_text : result ≡ whole → Grows (written before) (written after) text
   pub end : result ≡ whole → finished after ≡ true
-  pub front : result ≡ WriteFault → GrowsByFront (written before) (written after) text
-  pub rose : result ≡ WriteFault → Rose (faults before) (faults after)
+  pub prefix : result ≡ WriteFault → GrowsByPrefix (written before) (written after) text
+  pub rose : result ≡ WriteFault → FaultCountRose (faults before) (faults after)
   pub later : faults before ≤ faults after
   pub kept : result ≢ WriteFault → faults after ≡ faults before
   pub silent : result ≡ Memory → after ≡ before

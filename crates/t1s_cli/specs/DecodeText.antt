@@ -11,7 +11,7 @@ use Rattle.t1s_capture.specs.declared.items.Counts.{Counts}
 use Rattle.t1s_capture.specs.declared.items.Refusal.{Refusal}
 use Rattle.t1s_capture.specs.declared.items.Why.{Why}
 use Rattle.t1s_capture.specs.declared.items.Why.TheVariants.{Magic, Version, NodeByte, CountZero, GapTwice, Group, Place, BurstLong, Truncated, AfterEnd, TooLong}
-use Rattle.t1s_capture.specs.Handed.{Handed, PieceItem, BeaconItem, RunItem, BareItem, TornItem}
+use Rattle.t1s_capture.specs.DecodedItems.{DecodedItem, PieceItem, BeaconItem, RunItem, BareItem, TornItem}
 use Rattle.t1s_cli.specs.Text.{line}
 
 -- the letter of a closer
@@ -41,7 +41,7 @@ piece_line start view = line (
     closer_name view.closer ∷ kind_text view.kind view.frame ∷ [])
 
 -- the line of an item: its first tick, and for all but a beacon and a piece the tick behind its last
-abbrev pub item_line : Handed → List ℕ
+abbrev pub item_line : DecodedItem → List ℕ
 item_line (PieceItem start view) = piece_line start view
 item_line (BeaconItem start) = line (codes "beacon" ∷ decimal start ∷ [])
 item_line (RunItem start end pieces) = line (codes "run" ∷ decimal start ∷ decimal end ∷ decimal pieces ∷ [])

@@ -2,7 +2,7 @@
 use Rattle.std.specs.Prelude.{◌≡◌, ℕ, ◌^◌, ◌≤◌, ◌⊎◌, List, [], ◌∷◌, ◌++◌, length, take}
 use Rattle.t1s_capture.specs.declared.items.Counts.{Counts}
 use Rattle.t1s_capture.specs.declared.items.Refusal.{Refusal}
-use Rattle.t1s_capture.specs.Handed.{Handed, IsItemOctet}
+use Rattle.t1s_capture.specs.DecodedItems.{DecodedItem, IsItemOctet}
 use Rattle.t1s_capture.specs.Answers.{IsCountedCapture}
 use Rattle.t1s_capture.specs.Offences.{IsFirstOffence}
 use Rattle.t1s_cli.specs.DecodeText.{item_line, end_line, offence_line}
@@ -10,8 +10,8 @@ use Rattle.t1s_cli.specs.DecodeText.{item_line, end_line, offence_line}
 -- what an octet, behind those before it, adds to the item lines: the line of the item that is handed out at
 -- it, or nothing where none is
 pub data IsLineAt (before : List ℕ) (octet : ℕ) (text : List ℕ) : Type 0 where
-  Shown : (item : Handed) → IsItemOctet before octet item → text ≡ item_line item → IsLineAt before octet text
-  Silent : ((item : Handed) → IsItemOctet before octet item → ⊥) → text ≡ [] → IsLineAt before octet text
+  Shown : (item : DecodedItem) → IsItemOctet before octet item → text ≡ item_line item → IsLineAt before octet text
+  Silent : ((item : DecodedItem) → IsItemOctet before octet item → ⊥) → text ≡ [] → IsLineAt before octet text
 
 -- what further octets add to the item lines, one octet after another
 abbrev pub AreLinesBehind : List ℕ → List ℕ → List ℕ → Type 0

@@ -1,7 +1,7 @@
 -- What decoding has done with the octets that it has read.
 use Rattle.std.specs.Prelude.{◌≡◌, ◌≢◌, ℕ, ◌^◌, ◌≤◌, ◌⊎◌, Bool, true, List, [], ◌++◌, length, Option, IfSome}
-use Rattle.t1s_base.specs.Causes.{Rose}
-use Rattle.t1s_base.specs.Octets.{Gives, Grows, GrowsByFront}
+use Rattle.t1s_base.specs.Causes.{FaultCountRose}
+use Rattle.t1s_base.specs.Octets.{Gives, Grows, GrowsByPrefix}
 use Rattle.t1s_capture.specs.Captures.{IsCapturePrefix}
 use Rattle.t1s_capture.specs.State.{DecoderState}
 use Rattle.t1s_capture.specs.Stands.{Stands}
@@ -23,15 +23,15 @@ pub record IsDecoding {K : Type 0} (written : K → Option (List ℕ)) (faults :
   pub shown : HasShown written faults octets before after
 
 -- The decoding of these octets, the whole input, has ended. After Done and Refused their decoded text is
--- written and the sink is finished; a sink that failed holds a front of the text.
+-- written and the sink is finished; a sink that failed holds a prefix of the text.
 pub record HasDecoded {K : Type 0} (written : K → Option (List ℕ)) (faults : K → ℕ) (finished : K → Bool) (octets : List ℕ) (before after : K) (status : Status) : Type 0 where
   pub answer : (status ≡ Done) ⊎ ((status ≡ Refused) ⊎ (status ≡ WriteFault))
   pub done : status ≡ Done → (text : List ℕ) × IsCaptureText octets text × Grows (written before) (written after) text
   pub refused : status ≡ Refused → (text : List ℕ) × IsOffenceText octets text × Grows (written before) (written after) text
-  pub front : status ≡ WriteFault → (text : List ℕ) × IsDecodedText octets text × GrowsByFront (written before) (written after) text
+  pub prefix : status ≡ WriteFault → (text : List ℕ) × IsDecodedText octets text × GrowsByPrefix (written before) (written after) text
   pub finish : (status ≡ Done) ⊎ (status ≡ Refused) → finished after ≡ true
   pub later : faults before ≤ faults after
-  pub rose : status ≡ WriteFault → Rose (faults before) (faults after)
+  pub rose : status ≡ WriteFault → FaultCountRose (faults before) (faults after)
   pub kept : status ≢ WriteFault → faults after ≡ faults before
 
 -- the decoding has ended within these octets, whatever follows them

@@ -1,14 +1,14 @@
 -- The report of a script: the lines of the events of its run, and then the summary.
 use Rattle.std.specs.Prelude.{ℕ, List, ◌++◌}
 use Rattle.std.specs.List.{flat_map}
-use Rattle.t1s_world.specs.Telling.{events_below}
+use Rattle.t1s_world.specs.Events.{events_below}
 use Rattle.t1s_script.specs.declared.script.Script.{Script}
 use Rattle.t1s_segment.specs.World.{events_at, settled_below, totals_below}
-use Rattle.t1s_cli.specs.Text.{told_line, settled_line, totals_line}
+use Rattle.t1s_cli.specs.Text.{event_line, settled_line, totals_line}
 
 -- the lines of the events of the ticks below t, the oldest tick first
 abbrev pub event_lines_below : Script → ℕ → List ℕ
-event_lines_below s t = flat_map told_line (events_below (events_at s) t)
+event_lines_below s t = flat_map event_line (events_below (events_at s) t)
 
 -- the summary of the ticks below t: when all were in step, and then what was counted at each node, the nodes ascending
 abbrev pub summary_below : Script → ℕ → List ℕ

@@ -8,17 +8,17 @@ use Rattle.t1s_script.specs.declared.fitness.Unfit.{Unfit}
 use Rattle.t1s_script.specs.declared.script.Script.{Script}
 use Rattle.t1s_script.specs.Fit.{span_of, start_bound, unmet}
 use Rattle.t1s_segment.specs.declared.totals.NodeTotals.{NodeTotals}
-use Rattle.t1s_segment.specs.Told.{Told, StatusTold, BeaconTold, QuietTold}
+use Rattle.t1s_segment.specs.EventRecords.{EventRecord, StatusRecord, BeaconRecord, QuietRecord}
 
 -- a line: its fields with a space between each two, and LF
 abbrev pub line : List (List ℕ) → List ℕ
 line fields = join_with_byte 32 fields ++ 10 ∷ []
 
 -- the line of an event: the tick, what happened, the number of the node
-abbrev pub told_line : Told → List ℕ
-told_line (StatusTold tick node ok) = line (decimal tick ∷ codes "status" ∷ decimal node ∷ (if ok then codes "ok" else codes "lost") ∷ [])
-told_line (BeaconTold tick node) = line (decimal tick ∷ codes "beacon" ∷ decimal node ∷ [])
-told_line (QuietTold tick node) = line (decimal tick ∷ codes "quiet" ∷ decimal node ∷ [])
+abbrev pub event_line : EventRecord → List ℕ
+event_line (StatusRecord tick node ok) = line (decimal tick ∷ codes "status" ∷ decimal node ∷ (if ok then codes "ok" else codes "lost") ∷ [])
+event_line (BeaconRecord tick node) = line (decimal tick ∷ codes "beacon" ∷ decimal node ∷ [])
+event_line (QuietRecord tick node) = line (decimal tick ∷ codes "quiet" ∷ decimal node ∷ [])
 
 -- the line of the first tick in which every status was OK
 abbrev pub settled_line : Option ℕ → List ℕ

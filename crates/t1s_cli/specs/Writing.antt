@@ -1,15 +1,15 @@
 -- What a writer does with text.
 use Rattle.std.specs.Prelude.{◌≡◌, ℕ, ◌≤◌, true, false, List, Option}
-use Rattle.t1s_base.specs.Causes.{Rose}
-use Rattle.t1s_base.specs.Octets.{Grows, GrowsByFront}
+use Rattle.t1s_base.specs.Causes.{FaultCountRose}
+use Rattle.t1s_base.specs.Octets.{Grows, GrowsByPrefix}
 use Rattle.t1s_cli.specs.declared.writer.Writer.{Writer}
 
 -- A writer has been given a text, where `written` tells what its sink holds and `faults` counts the sink's
--- faults. A writer that goes on has written all of it. One that stops in it has written a front of it, at a
+-- faults. A writer that goes on has written all of it. One that stops in it has written a prefix of it, at a
 -- fault of the sink. One that had stopped before leaves its sink alone.
 pub record Puts {K : Type 0} (written : K → Option (List ℕ)) (faults : K → ℕ) (before : Writer K) (text : List ℕ) (after : Writer K) : Type 0 where
   pub same_reference : after.sink.ghost_name ≡ before.sink.ghost_name
   pub later : faults before.sink.now ≤ faults after.sink.now
   pub idle : before.stopped ≡ true → (after.stopped ≡ true) × (after.sink.now ≡ before.sink.now)
   pub whole : before.stopped ≡ false → after.stopped ≡ false → Grows (written before.sink.now) (written after.sink.now) text × (faults after.sink.now ≡ faults before.sink.now)
-  pub front : before.stopped ≡ false → after.stopped ≡ true → GrowsByFront (written before.sink.now) (written after.sink.now) text × Rose (faults before.sink.now) (faults after.sink.now)
+  pub prefix : before.stopped ≡ false → after.stopped ≡ true → GrowsByPrefix (written before.sink.now) (written after.sink.now) text × FaultCountRose (faults before.sink.now) (faults after.sink.now)

@@ -2,8 +2,8 @@
 ghost use Rattle.std.specs.Prelude.{◌≡◌, ◌≤◌, ◌+◌, ◌*◌, ◌++◌, length};
 ghost use Rattle.hex.specs.Hex.{encode_lower};
 ghost use Rattle.t1s_pcs_rx.specs.Views.{view_shown};
-ghost use Rattle.t1s_capture.specs.Handed.{BeaconItem, RunItem, BareItem, TornItem, handed_frame};
-ghost use Rattle.t1s_capture.specs.Kept.{shown};
+ghost use Rattle.t1s_capture.specs.DecodedItems.{BeaconItem, RunItem, BareItem, TornItem, frame_of_item};
+ghost use Rattle.t1s_capture.specs.HeldItems.{decoded_item};
 ghost use Rattle.t1s_cli.specs.DecodeText.{closer_name, before_check, kind_text, piece_line, item_line, end_line, why_name, offence_line};
 
 use crate::lines::{count, text};
@@ -137,8 +137,8 @@ fn torn_line(start: u64, end: u64, symbols: u64, blur: u64) -> Line
 
 /// The line of an item.
 pub(crate) fn item_line(item: Item<'_>) -> Line
-    requires { length (handed_frame (shown item)) ≤ 1522 }
-    ensures { result ≡ item_line (shown item.entry) }
+    requires { length (frame_of_item (decoded_item item)) ≤ 1522 }
+    ensures { result ≡ item_line (decoded_item item.entry) }
 {
     match item {
         Item::Piece { start, view } => piece_line(start, view),

@@ -1,6 +1,6 @@
 // A capture, decoded octet by octet.
 ghost use Rattle.std.specs.Prelude.{◌≡◌, ◌≢◌, ◌≤◌, ℕ, List, [], ◌∷◌, ◌++◌, IfOk, IfErr};
-ghost use Rattle.t1s_base.specs.Causes.{Rose};
+ghost use Rattle.t1s_base.specs.Causes.{FaultCountRose};
 ghost use Rattle.t1s_cli.specs.Decoding.{IsDecoding, HasDecoded, HasStopped, Decodes};
 
 use crate::decode_lines::{end_line, item_line, offence_line};
@@ -70,7 +70,7 @@ fn end_octets<K: Sink>(decoder: Decoder, sink: &mut K) -> Status
 pub(crate) fn decode<S: Source, K: Sink>(source: &mut S, sink: &mut K) -> Status
     ensures decodes { Decodes S.left K.written K.faults K.finished source.old source.new sink.old sink.new result }
     ensures source_later { S.faults source.old ≤ S.faults source.new }
-    ensures read_fault { result ≡ Status.ReadFault → Rose (S.faults source.old) (S.faults source.new) }
+    ensures read_fault { result ≡ Status.ReadFault → FaultCountRose (S.faults source.old) (S.faults source.new) }
     ensures no_read_fault { result ≢ Status.ReadFault → S.faults source.new ≡ S.faults source.old }
 {
     let mut decoder = Decoder::new();

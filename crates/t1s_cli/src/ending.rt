@@ -1,6 +1,6 @@
 // How a text that was written ends.
 ghost use Rattle.std.specs.Prelude.{◌≡◌, ◌≢◌, ◌⊎◌, ◌≤◌, true};
-ghost use Rattle.t1s_base.specs.Causes.{Rose};
+ghost use Rattle.t1s_base.specs.Causes.{FaultCountRose};
 ghost use Rattle.t1s_cli.specs.Answers.{Ends};
 
 use crate::status::Status;
@@ -13,7 +13,7 @@ pub(crate) fn finish<K: Sink>(sink: &mut K, whole: Status) -> Status
     ensures end { result ≡ whole → K.finished sink.new ≡ true }
     ensures octets { K.written sink.new ≡ K.written sink.old }
     ensures later { K.faults sink.old ≤ K.faults sink.new }
-    ensures rose { result ≡ Status.WriteFault → Rose (K.faults sink.old) (K.faults sink.new) }
+    ensures rose { result ≡ Status.WriteFault → FaultCountRose (K.faults sink.old) (K.faults sink.new) }
     ensures kept { result ≢ Status.WriteFault → K.faults sink.new ≡ K.faults sink.old }
 {
     match sink.finish() {

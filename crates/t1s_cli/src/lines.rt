@@ -1,7 +1,7 @@
 // The lines that are written.
 ghost use Rattle.std.specs.Prelude.{◌≡◌, ◌+◌, ◌≤◌, ◌++◌, length, decimal};
-ghost use Rattle.t1s_segment.specs.Told.{told};
-ghost use Rattle.t1s_cli.specs.Text.{told_line, settled_line, totals_line, reason_name, refused_line, fit_line, unfit_line, check_line};
+ghost use Rattle.t1s_segment.specs.EventRecords.{event_record};
+ghost use Rattle.t1s_cli.specs.Text.{event_line, settled_line, totals_line, reason_name, refused_line, fit_line, unfit_line, check_line};
 
 use t1s_base::{Line, put_number, put_text};
 use t1s_script::{Script, ScriptReason, ScriptRefusal, Unfit, bound, fit, span};
@@ -27,7 +27,7 @@ pub(crate) fn number(out: &mut Line, n: u64)
 
 /// Replaces the content of the line by that of an event.
 pub(crate) fn event_line(out: &mut Line, e: &Event)
-    ensures { out.new ≡ told_line (told e.now) }
+    ensures { out.new ≡ event_line (event_record e.now) }
 {
     *out = Line::new();
     match *e {

@@ -1,7 +1,7 @@
 // The run of a segment, written to a sink.
 ghost use Rattle.std.specs.Prelude.{◌≡◌, ◌<◌, ◌⊎◌, ℕ, true, false, IsTrue, IsFalse, OnOk, OnErr};
 ghost use Rattle.t1s_base.specs.Causes.{HasCause};
-ghost use Rattle.t1s_base.specs.Octets.{Grows, GrowsByFront};
+ghost use Rattle.t1s_base.specs.Octets.{Grows, GrowsByPrefix};
 ghost use Rattle.t1s_script.specs.declared.script.Script.{Script};
 ghost use Rattle.t1s_segment.specs.Stands.{Stands, ticks_left};
 ghost use Rattle.t1s_cli.specs.Report.{report};
@@ -39,7 +39,7 @@ pub fn play<K: Sink>(seg: &mut Segment, sink: &mut K) -> Result<(), Failed>
     requires { seg.old.tick ≡ 0 }
     ensures text { (s : Script) → Stands s 0 seg.old → OnOk result (Grows (K.written sink.old) (K.written sink.new) (report s)) }
     ensures at_end { (s : Script) → Stands s 0 seg.old → OnOk result (Stands s s.end seg.new) }
-    ensures front { (s : Script) → Stands s 0 seg.old → OnErr result (GrowsByFront (K.written sink.old) (K.written sink.new) (report s)) }
+    ensures prefix { (s : Script) → Stands s 0 seg.old → OnErr result (GrowsByPrefix (K.written sink.old) (K.written sink.new) (report s)) }
     ensures stands { (s : Script) → Stands s 0 seg.old → (t : ℕ) × Stands s t seg.new }
     ensures cause { (s : Script) → Stands s 0 seg.old → HasCause (K.faults sink.old) (K.faults sink.new) result }
 {

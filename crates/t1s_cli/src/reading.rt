@@ -1,7 +1,7 @@
 // The whole of an input.
 ghost use Rattle.std.specs.Prelude.{◌≡◌, ◌≤◌, ◌⊎◌, ℕ, List, [], length, Some, IfOk};
 ghost use Rattle.std.specs.Result.{IsErrOf};
-ghost use Rattle.t1s_base.specs.Causes.{Rose};
+ghost use Rattle.t1s_base.specs.Causes.{FaultCountRose};
 ghost use Rattle.t1s_base.specs.Octets.{Gives};
 
 use std::alloc::Global;
@@ -28,7 +28,7 @@ pub(crate) fn read_whole<S: Source>(alloc: Global, source: &mut S) -> Result<Vec
     ensures whole { IfOk result (λ bytes. (rest : List ℕ) → S.left source.new ≡ Some rest → (rest ≡ []) ⊎ (length bytes.items ≡ 1048577)) }
     ensures bound { IfOk result (λ bytes. length bytes.items ≤ 1048577) }
     ensures later { S.faults source.old ≤ S.faults source.new }
-    ensures failed { IsErrOf result ReadStop.Failed → Rose (S.faults source.old) (S.faults source.new) }
+    ensures failed { IsErrOf result ReadStop.Failed → FaultCountRose (S.faults source.old) (S.faults source.new) }
     ensures kept { ¬ (IsErrOf result ReadStop.Failed) → S.faults source.new ≡ S.faults source.old }
 {
     let mut bytes = Vec::new(alloc);

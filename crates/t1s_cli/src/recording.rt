@@ -1,7 +1,7 @@
 // What a node hears in the run of a segment, written to a sink as a capture.
 ghost use Rattle.std.specs.Prelude.{◌<◌, OnOk, OnErr};
 ghost use Rattle.t1s_base.specs.Causes.{HasCause};
-ghost use Rattle.t1s_base.specs.Octets.{Grows, GrowsByFront};
+ghost use Rattle.t1s_base.specs.Octets.{Grows, GrowsByPrefix};
 ghost use Rattle.t1s_script.specs.declared.script.Script.{Script};
 ghost use Rattle.t1s_segment.specs.Stands.{Stands};
 ghost use Rattle.t1s_cli.specs.HeardText.{heard_text};
@@ -48,7 +48,7 @@ pub(crate) fn record<K: Sink>(seg: &mut Segment, node: u8, sink: &mut K) -> Resu
     requires node { node < 16 }
     requires stands { (s : Script) × Stands s 0 seg.old }
     ensures text { (s : Script) → Stands s 0 seg.old → OnOk result (Grows (K.written sink.old) (K.written sink.new) (heard_text s node)) }
-    ensures front { (s : Script) → Stands s 0 seg.old → OnErr result (GrowsByFront (K.written sink.old) (K.written sink.new) (heard_text s node)) }
+    ensures prefix { (s : Script) → Stands s 0 seg.old → OnErr result (GrowsByPrefix (K.written sink.old) (K.written sink.new) (heard_text s node)) }
     ensures cause { (s : Script) → Stands s 0 seg.old → HasCause (K.faults sink.old) (K.faults sink.new) result }
 {
     let mut writer = Writer::new(sink);

@@ -1,7 +1,7 @@
 // All that the program does.
 ghost use Rattle.std.specs.Prelude.{◌≡◌, ◌≢◌, ◌⊎◌, ◌↔◌, ◌^◌, ◌≤◌, ◌<◌, ℕ, List, [], length, true, Ok, Some, IsOk, drop};
-ghost use Rattle.t1s_base.specs.Causes.{Rose};
-ghost use Rattle.t1s_base.specs.Octets.{Gives, Grows, GrowsByFront};
+ghost use Rattle.t1s_base.specs.Causes.{FaultCountRose};
+ghost use Rattle.t1s_base.specs.Octets.{Gives, Grows, GrowsByPrefix};
 ghost use Rattle.t1s_script.specs.Reading.{script_of};
 ghost use Rattle.t1s_script.specs.Script.{IsScript};
 ghost use Rattle.t1s_script.specs.ThinForm.{has_thin_form};
@@ -141,16 +141,16 @@ pub fn workbench<S: Source, K: Sink>(
     ensures usage_reads_nothing { result ≡ Status.Usage → source.new ≡ source.old }
     ensures usage_writes_nothing { result ≡ Status.Usage → sink.new ≡ sink.old }
     ensures source_later { S.faults source.old ≤ S.faults source.new }
-    ensures read_fault { result ≡ Status.ReadFault → Rose (S.faults source.old) (S.faults source.new) }
+    ensures read_fault { result ≡ Status.ReadFault → FaultCountRose (S.faults source.old) (S.faults source.new) }
     ensures no_read_fault { result ≢ Status.ReadFault → S.faults source.new ≡ S.faults source.old }
     ensures reads { (octets : List ℕ) → AreOnScript words.now → S.left source.old ≡ Some octets →
         (result ≡ Status.Done) ⊎ ((result ≡ Status.Refused) ⊎ (result ≡ Status.WriteFault)) → S.left source.new ≡ Some (drop 1048577 octets) }
     ensures read_fault_writes_nothing { AreOnScript words.now → result ≡ Status.ReadFault → sink.new ≡ sink.old }
     ensures sink_later { K.faults sink.old ≤ K.faults sink.new }
-    ensures write_fault { result ≡ Status.WriteFault → Rose (K.faults sink.old) (K.faults sink.new) }
+    ensures write_fault { result ≡ Status.WriteFault → FaultCountRose (K.faults sink.old) (K.faults sink.new) }
     ensures no_write_fault { result ≢ Status.WriteFault → K.faults sink.new ≡ K.faults sink.old }
-    ensures write_fault_front { (octets : List ℕ) → AreRun words.now → S.left source.old ≡ Some octets → result ≡ Status.WriteFault →
-        GrowsByFront (K.written sink.old) (K.written sink.new) (text_of (answer_of ScriptTask.Run octets)) }
+    ensures write_fault_prefix { (octets : List ℕ) → AreRun words.now → S.left source.old ≡ Some octets → result ≡ Status.WriteFault →
+        GrowsByPrefix (K.written sink.old) (K.written sink.new) (text_of (answer_of ScriptTask.Run octets)) }
     ensures memory_writes_nothing { result ≡ Status.Memory → sink.new ≡ sink.old }
     ensures refused { (octets : List ℕ) → AreOnScript words.now → S.left source.old ≡ Some octets → result ≡ Status.Refused →
         (refusal : ScriptRefusal) × IsRefusedBy words.now octets refusal × Grows (K.written sink.old) (K.written sink.new) (refused_line refusal) }
@@ -161,43 +161,43 @@ pub fn workbench<S: Source, K: Sink>(
     ensures done_reads_all { (octets : List ℕ) → S.left source.old ≡ Some octets → result ≡ Status.Done → S.left source.new ≡ Some [] }
     ensures done_finishes { result ≡ Status.Done → K.finished sink.new ≡ true }
     ensures script_is_played { (octets : List ℕ) (s : Script) → AreRun words.now → S.left source.old ≡ Some octets → script_of octets ≡ Ok s →
-        ¬ (Rose (S.faults source.old) (S.faults source.new)) → ¬ (Rose (K.faults sink.old) (K.faults sink.new)) →
+        ¬ (FaultCountRose (S.faults source.old) (S.faults source.new)) → ¬ (FaultCountRose (K.faults sink.old) (K.faults sink.new)) →
         (result ≡ Status.Done) ⊎ (result ≡ Status.Memory) }
     ensures other_input_is_refused { (octets : List ℕ) (refusal : ScriptRefusal) → AreOnScript words.now → S.left source.old ≡ Some octets → IsRefusedBy words.now octets refusal →
-        ¬ (Rose (S.faults source.old) (S.faults source.new)) → ¬ (Rose (K.faults sink.old) (K.faults sink.new)) →
+        ¬ (FaultCountRose (S.faults source.old) (S.faults source.new)) → ¬ (FaultCountRose (K.faults sink.old) (K.faults sink.new)) →
         (result ≡ Status.Refused) ⊎ (result ≡ Status.Memory) }
     ensures beacons { (octets : List ℕ) (s : Script) → AreRun words.now → S.left source.old ≡ Some octets → has_thin_form octets ≡ true →
         script_of octets ≡ Ok s → HasBeacons s }
     ensures checked { (octets : List ℕ) (s : Script) → AreCheck words.now → S.left source.old ≡ Some octets → script_of octets ≡ Ok s →
         result ≡ Status.Done → Grows (K.written sink.old) (K.written sink.new) (check_line s) }
-    ensures check_write_fault_front { (octets : List ℕ) → AreCheck words.now → S.left source.old ≡ Some octets → result ≡ Status.WriteFault →
-        GrowsByFront (K.written sink.old) (K.written sink.new) (text_of (answer_of ScriptTask.Check octets)) }
+    ensures check_write_fault_prefix { (octets : List ℕ) → AreCheck words.now → S.left source.old ≡ Some octets → result ≡ Status.WriteFault →
+        GrowsByPrefix (K.written sink.old) (K.written sink.new) (text_of (answer_of ScriptTask.Check octets)) }
     ensures script_is_checked { (octets : List ℕ) (s : Script) → AreCheck words.now → S.left source.old ≡ Some octets → script_of octets ≡ Ok s →
-        ¬ (Rose (S.faults source.old) (S.faults source.new)) → ¬ (Rose (K.faults sink.old) (K.faults sink.new)) →
+        ¬ (FaultCountRose (S.faults source.old) (S.faults source.new)) → ¬ (FaultCountRose (K.faults sink.old) (K.faults sink.new)) →
         (result ≡ Status.Done) ⊎ (result ≡ Status.Memory) }
     ensures captured { (octets : List ℕ) (s : Script) (node : ℕ) → AreCapture words.now node → S.left source.old ≡ Some octets → script_of octets ≡ Ok s →
         result ≡ Status.Done → (has_node s node ≡ true) × Grows (K.written sink.old) (K.written sink.new) (heard_text s node) }
-    ensures capture_write_fault_front { (octets : List ℕ) (node : ℕ) → AreCapture words.now node → S.left source.old ≡ Some octets → result ≡ Status.WriteFault →
-        GrowsByFront (K.written sink.old) (K.written sink.new) (text_of (answer_of (ScriptTask.Capture node) octets)) }
+    ensures capture_write_fault_prefix { (octets : List ℕ) (node : ℕ) → AreCapture words.now node → S.left source.old ≡ Some octets → result ≡ Status.WriteFault →
+        GrowsByPrefix (K.written sink.old) (K.written sink.new) (text_of (answer_of (ScriptTask.Capture node) octets)) }
     ensures script_is_captured { (octets : List ℕ) (s : Script) (node : ℕ) → AreCapture words.now node → S.left source.old ≡ Some octets → script_of octets ≡ Ok s →
-        has_node s node ≡ true → ¬ (Rose (S.faults source.old) (S.faults source.new)) → ¬ (Rose (K.faults sink.old) (K.faults sink.new)) →
+        has_node s node ≡ true → ¬ (FaultCountRose (S.faults source.old) (S.faults source.new)) → ¬ (FaultCountRose (K.faults sink.old) (K.faults sink.new)) →
         (result ≡ Status.Done) ⊎ (result ≡ Status.Memory) }
     ensures decoded { (octets : List ℕ) → AreDecode words.now → S.left source.old ≡ Some octets → result ≡ Status.Done →
         (text : List ℕ) × IsCaptureText octets text × Grows (K.written sink.old) (K.written sink.new) text }
     ensures decode_refused { (octets : List ℕ) → AreDecode words.now → S.left source.old ≡ Some octets → result ≡ Status.Refused →
         (text : List ℕ) × IsOffenceText octets text × Grows (K.written sink.old) (K.written sink.new) text }
-    ensures decode_write_fault_front { (octets : List ℕ) → AreDecode words.now → S.left source.old ≡ Some octets → result ≡ Status.WriteFault →
-        (text : List ℕ) × IsDecodedText octets text × GrowsByFront (K.written sink.old) (K.written sink.new) text }
+    ensures decode_write_fault_prefix { (octets : List ℕ) → AreDecode words.now → S.left source.old ≡ Some octets → result ≡ Status.WriteFault →
+        (text : List ℕ) × IsDecodedText octets text × GrowsByPrefix (K.written sink.old) (K.written sink.new) text }
     ensures decode_read_fault { AreDecode words.now → result ≡ Status.ReadFault →
         (taken : List ℕ) × (text : List ℕ) × Gives (S.left source.old) (S.left source.new) taken × IsCapturePrefix taken ×
         IsItemText taken text × Grows (K.written sink.old) (K.written sink.new) text }
     ensures decode_reads { AreDecode words.now → (taken : List ℕ) × Gives (S.left source.old) (S.left source.new) taken × IsReadInPieces taken }
     ensures decode_takes_no_memory { AreDecode words.now → result ≢ Status.Memory }
     ensures capture_is_decoded { (octets : List ℕ) → AreDecode words.now → S.left source.old ≡ Some octets → IsCapture octets → length octets ≤ 2 ^ 30 →
-        ¬ (Rose (S.faults source.old) (S.faults source.new)) → ¬ (Rose (K.faults sink.old) (K.faults sink.new)) → result ≡ Status.Done }
+        ¬ (FaultCountRose (S.faults source.old) (S.faults source.new)) → ¬ (FaultCountRose (K.faults sink.old) (K.faults sink.new)) → result ≡ Status.Done }
     ensures offence_is_refused { (octets : List ℕ) (refusal : Refusal) → AreDecode words.now → S.left source.old ≡ Some octets →
         IsFirstOffence octets refusal.offset refusal.why →
-        ¬ (Rose (S.faults source.old) (S.faults source.new)) → ¬ (Rose (K.faults sink.old) (K.faults sink.new)) → result ≡ Status.Refused }
+        ¬ (FaultCountRose (S.faults source.old) (S.faults source.new)) → ¬ (FaultCountRose (K.faults sink.old) (K.faults sink.new)) → result ≡ Status.Refused }
 {
     match command_of(words) {
         Some(Command::OnScript(task)) => match read_whole(alloc, source) {

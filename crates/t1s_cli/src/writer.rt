@@ -1,6 +1,6 @@
 // What writes to a sink until a write stops, and a watch that writes what it is told.
 ghost use Rattle.std.specs.Prelude.{◌≡◌, false};
-ghost use Rattle.t1s_cli.specs.Text.{told_line};
+ghost use Rattle.t1s_cli.specs.Text.{event_line};
 ghost use Rattle.t1s_cli.specs.Writing.{Puts};
 
 use crate::lines::event_line;
@@ -52,7 +52,7 @@ impl<'a, K: Sink> Writer<'a, K> {
 }
 
 impl<'a, K: Sink> Watch for Writer<'a, K> {
-    ghost sees = { λ before event after. Puts K.written K.faults before (told_line event) after };
+    ghost sees = { λ before event after. Puts K.written K.faults before (event_line event) after };
 
     /// Writes the line of the event.
     fn event(&mut self, e: &Event) {

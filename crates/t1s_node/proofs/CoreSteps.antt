@@ -15,7 +15,7 @@ use Rattle.t1s_mac.specs.declared.deference.Deference.{Deference}
 use Rattle.t1s_mac.specs.Deference.{deference_step, may_start}
 use Rattle.t1s_mac.specs.Mac.{Row, row_of, mac_row, deferring, sending, jamming, last_quarter, last_jam_nibble, last_attempt, preamble_nibbles}
 use Rattle.t1s_mac.specs.State.{Phase, Resting, Deferring, Waiting, Sending, Jamming, MacState, is_sending, with_queue, head_nibbles, nibbles_in, number_in}
-use Rattle.t1s_node.specs.Core.{Core, CoreDriven, core_start, Sensed, core_drive, core_offered, control_in, control_turn, tx_turn}
+use Rattle.t1s_node.specs.Core.{Core, CoreDriven, core_start, LineReading, core_drive, core_offered, control_in, control_turn, tx_turn}
 use Rattle.t1s_node.specs.Runs.{core_offers, DrawsAreBounded}
 use Rattle.t1s_node.proofs.Joint.{Place, Asleep, Goes, Joint, Outcome, asleep, idles, holds, collides, jams, delays, pends, waits, rests_in, before, fed, given, ends, closes}
 use Rattle.t1s_node.proofs.JointSteps.{joint_steps, asleep_on}
@@ -114,7 +114,7 @@ module _ {D : Type 0} where
     pub lost : c.line ≡ popped ++ (tx_turn d.cmd c).line
     pub stands : Stands to d.core
 
-  module _ (answer : D → ℕ → ℕ) (after : D → D) (s : Sensed) (c : Core D) where
+  module _ (answer : D → ℕ → ℕ) (after : D → D) (s : LineReading) (c : Core D) where
     abbrev next : ControlStage
     next = (control_row c.control.set c.control.state (control_in s c)).0
 

@@ -3,7 +3,7 @@ use Rattle.std.proofs.Common.{◌≡◌, ℕ, zero, suc, List, [], ◌∷◌, re
 use Rattle.t1s_ring.specs.declared.queued.Queued.{Queued}
 use Rattle.t1s_mac.specs.Picked.{picked_answer, picked_after}
 use Rattle.t1s_mac.specs.declared.picked.PickedDraws.{PickedDraws}
-use Rattle.t1s_node.specs.Core.{Core, CoreDriven, Sensed, core_drive}
+use Rattle.t1s_node.specs.Core.{Core, CoreDriven, LineReading, core_drive}
 use Rattle.t1s_node.specs.Node.{NodeState, node_offered, node_sensed}
 use Rattle.t1s_node.specs.NodeRuns.{NodeTick, node_offers, node_at, met_by_core}
 use Rattle.t1s_node.specs.Runs.{core_offers, core_at, driven_at}
@@ -17,7 +17,7 @@ offers_sensed n [] = refl
 offers_sensed n (q ∷ qs) = offers_sensed (node_offered n q) qs
 
 module _ (start : NodeState) (given : ℕ → NodeTick) where
-  abbrev drives : Core PickedDraws → Sensed → CoreDriven PickedDraws
+  abbrev drives : Core PickedDraws → LineReading → CoreDriven PickedDraws
   drives c s = core_drive picked_answer picked_after s c
 
   -- what the core of the node comes to in a tick
@@ -45,7 +45,7 @@ module _ (start : NodeState) (given : ℕ → NodeTick) where
   pub driven_same : (t : ℕ) → (node_at start given t).core ≡ core_at picked_answer picked_after start.core (met_by_core start given) t
       → core_driven t ≡ driven_at picked_answer picked_after start.core (met_by_core start given) t
   driven_same t same =
-      ap (λ (s : Sensed). drives (node_offers (node_at start given t) (given t).offers).core s) (offers_sensed (node_at start given t) (given t).offers)
+      ap (λ (s : LineReading). drives (node_offers (node_at start given t) (given t).offers).core s) (offers_sensed (node_at start given t) (given t).offers)
       ∙ ap (λ (c : Core PickedDraws). drives c (node_sensed (node_at start given t)))
       (offers_core (node_at start given t) (given t).offers ∙ ap (λ (c : Core PickedDraws). core_offers c (given t).offers) same)
 

@@ -31,7 +31,7 @@ pub record Core (D : Type 0) : Type 0 where
 
 -- what a drive phase finds beside the core, as the last tick left it: the carrier, what the receiver takes the last
 -- burst for, and whether the node drove and heard another signal
-pub record Sensed : Type 0 where
+pub record LineReading : Type 0 where
   pub crs : Bool
   pub class : Class
   pub hit : Bool
@@ -58,15 +58,15 @@ module _ {D : Type 0} where
   core_offered c q = record c { mac = offered c.mac q }
 
   -- what control is told: all of it as the last tick left it
-  abbrev pub control_in : Sensed → Core D → ControlIn
+  abbrev pub control_in : LineReading → Core D → ControlIn
   control_in s c =
       record { crs = s.crs; class = s.class; ready = ready c.path; begun = begun c.path; tx = report_of c.tx }
 
-  abbrev pub control_turn : Sensed → Core D → ControlState × ControlOut
+  abbrev pub control_turn : LineReading → Core D → ControlState × ControlOut
   control_turn s c = control_step c.control (control_in s c)
 
   -- the MAC is shown the carrier and the collision of the data path as the last tick left it
-  abbrev pub mac_turn : (D → ℕ → ℕ) → (D → D) → Sensed → Core D → MacState D × MacStep
+  abbrev pub mac_turn : (D → ℕ → ℕ) → (D → D) → LineReading → Core D → MacState D × MacStep
   mac_turn answer after s c = mac_step answer after c.mac (carrier c.path s.crs) (collision c.path)
 
   -- the transmitter takes the new command, and pops from the line before this tick's nibble is pushed
@@ -74,7 +74,7 @@ module _ {D : Type 0} where
   tx_turn cmd c = transmit_step c.tx (record { cmd = cmd; ended = ended c.path; bad = bad c.path }) c.line
 
   -- the data path takes what control and the MAC gave out in this tick
-  abbrev pub path_in : Sensed → Core D → ControlOut → MacStep → DataIn
+  abbrev pub path_in : LineReading → Core D → ControlOut → MacStep → DataIn
   path_in s c given told = record {
     active = given.active;
     own = given.own;
@@ -85,12 +85,12 @@ module _ {D : Type 0} where
     mac = told.out;
   }
 
-  abbrev pub path_turn : Sensed → Core D → ControlOut → MacStep → List ℕ → State × List ℕ
+  abbrev pub path_turn : LineReading → Core D → ControlOut → MacStep → List ℕ → State × List ℕ
   path_turn s c given told line = data_path_step c.path (path_in s c given told) line
 
   -- the drive phase of a tick; `answer` is the number that draws would answer for an attempt, and `after` what stands
   -- after one draw
-  unfoldable pub core_drive : (D → ℕ → ℕ) → (D → D) → Sensed → Core D → CoreDriven D
+  unfoldable pub core_drive : (D → ℕ → ℕ) → (D → D) → LineReading → Core D → CoreDriven D
   core_drive answer after s c =
       let control : ControlState × ControlOut = control_turn s c in
       let mac : MacState D × MacStep = mac_turn answer after s c in

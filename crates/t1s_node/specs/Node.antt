@@ -15,10 +15,10 @@ use Rattle.t1s_mac.specs.State.{MacState, mac_start}
 use Rattle.t1s_mac.specs.declared.picked.PickedDraws.{PickedDraws}
 use Rattle.t1s_mac.specs.declared.picked.PickedDraws.TheVariants.{List as Listed}
 use Rattle.t1s_node.specs.declared.carrier.Carrier.{Carrier}
-use Rattle.t1s_node.specs.declared.told.NodeSet.{NodeSet}
-use Rattle.t1s_node.specs.declared.told.Driven.{Driven}
+use Rattle.t1s_node.specs.declared.settings.NodeSet.{NodeSet}
+use Rattle.t1s_node.specs.declared.settings.Driven.{Driven}
 use Rattle.t1s_node.specs.Carrier.{carrier_start, carrier_step}
-use Rattle.t1s_node.specs.Core.{Core, CoreDriven, Sensed, core_start, core_offered, core_drive}
+use Rattle.t1s_node.specs.Core.{Core, CoreDriven, LineReading, core_start, core_offered, core_drive}
 
 -- after how many ticks carrier is read and no longer read, the parts that drive, the status, the carrier reading, the
 -- receiver, whether the node drove and heard another signal in the last tick, and whether it drove in it
@@ -68,7 +68,7 @@ node_offered n q = record n { core = core_offered n.core q }
 -- ---- the drive phase
 
 -- what the drive phase finds, as the last tick left it
-abbrev pub node_sensed : NodeState → Sensed
+abbrev pub node_sensed : NodeState → LineReading
 node_sensed n = record { crs = n.carrier.on; class = n.receiver.class; hit = n.hit }
 
 -- the node after its drive phase, and what it tells of it

@@ -5,8 +5,8 @@ use Rattle.t1s_ring.specs.Queue.{empty_queue}
 use Rattle.t1s_ring.specs.declared.queued.Queued.{Queued}
 use Rattle.t1s_mac.specs.Picked.{picked_answer, picked_after}
 use Rattle.t1s_mac.specs.declared.picked.PickedDraws.{PickedDraws}
-use Rattle.t1s_node.specs.declared.told.NodeSet.{NodeSet}
-use Rattle.t1s_node.specs.declared.told.Driven.{Driven}
+use Rattle.t1s_node.specs.declared.settings.NodeSet.{NodeSet}
+use Rattle.t1s_node.specs.declared.settings.Driven.{Driven}
 use Rattle.t1s_node.specs.Node.{NodeState, node_start, node_offered, node_sensed, node_drive, node_hear}
 use Rattle.t1s_node.specs.Runs.{CoreTick, core_at, driven_at}
 

@@ -8,12 +8,12 @@ use Rattle.t1s_mac.specs.Draws.{draw_bound}
 use Rattle.t1s_mac.specs.State.{Phase, Resting, Deferring, Waiting, Sending, Jamming}
 use Rattle.t1s_mac.specs.declared.outcome.MacNote.{MacNote}
 use Rattle.t1s_mac.specs.declared.outcome.MacStep.{MacStep}
-use Rattle.t1s_node.specs.Core.{Core, CoreDriven, Sensed, core_offered, core_drive, tx_turn}
+use Rattle.t1s_node.specs.Core.{Core, CoreDriven, LineReading, core_offered, core_drive, tx_turn}
 
 -- what a core meets in a tick: the frames that are offered before its drive phase, and what this finds
 pub record CoreTick : Type 0 where
   pub offers : List Queued
-  pub sensed : Sensed
+  pub sensed : LineReading
 
 -- the first nibble of a frame begins
 abbrev pub is_first_nibble : Phase → Bool

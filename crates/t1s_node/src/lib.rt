@@ -9,10 +9,10 @@
 mod carrier;
 pub mod laws;
 mod node;
-mod told;
+mod settings;
 
 pub use node::Node;
-pub use told::{Driven, NodeHeard, NodeSet};
+pub use settings::{Driven, NodeHeard, NodeSet};
 
 #[cfg(test)]
 mod tests;

@@ -12,7 +12,7 @@ use Rattle.t1s_world.proofs.WorldLemmas.{length-sensed_by, sensed_by_more}
 use Rattle.t1s_cable.specs.Stands.{no_puts}
 use Rattle.t1s_segment.specs.declared.track.Track.{Track}
 use Rattle.t1s_segment.specs.declared.totals.NodeTotals.{NodeTotals}
-use Rattle.t1s_segment.specs.Told.{Told}
+use Rattle.t1s_segment.specs.EventRecords.{EventRecord}
 use Rattle.t1s_segment.specs.Track.{Happened, Sensed, drive_track, hear_track, track_machine}
 use Rattle.t1s_segment.specs.World.{after_sensed, events_of}
 
@@ -33,11 +33,11 @@ module _ (t : ℕ) (xs ys : List Track) (i : ℕ) (x : Track) (lt : i < length x
   pub events_more : events_of t (take (i + 1) xs) ≡ events_of t (take i xs) ++ (drive_track t x).1.events
   events_more =
       let happened : Track → Happened = λ n. (drive_track t n).1 in
-      let events : Happened → List Told = λ h. h.events in
+      let events : Happened → List EventRecord = λ h. h.events in
       let one : driven_by track_machine t (take i xs ++ x ∷ []) ≡ driven_by track_machine t (take i xs) ++ happened x ∷ [] = map_push happened (take i xs) x in
       rw (take_more xs i x lt, ← still, one)
       (flat_map-append events (driven_by track_machine t (take i xs)) (happened x ∷ [])
-      ∙ ap (λ (r : List Told). events_of t (take i xs) ++ r) (append-nil (events (happened x))))
+      ∙ ap (λ (r : List EventRecord). events_of t (take i xs) ++ r) (append-nil (events (happened x))))
 
   -- the row of the cable where the nodes below i have put what they drive
   module _ (places : List ℕ) (sizes : length places ≡ length xs) where

@@ -5,9 +5,9 @@ use Rattle.t1s_symbols.specs.declared.Heard.{Heard}
 use Rattle.t1s_symbols.specs.declared.Quarter.{Quarter}
 use Rattle.t1s_world.specs.Hearing.{heard}
 use Rattle.t1s_world.specs.Lists.{each_with}
-use Rattle.t1s_world.specs.Telling.{count_below}
+use Rattle.t1s_world.specs.Events.{count_below}
 use Rattle.t1s_world.specs.World.{Past, at_depth, after_drive, after_hear, after_tick, row_of, sensed_by}
-use Rattle.t1s_world.proofs.TellingLemmas.{first_below-zero, first_below-more, count_below-zero, count_below-more, count_below-le}
+use Rattle.t1s_world.proofs.EventLemmas.{first_below-zero, first_below-more, count_below-zero, count_below-more, count_below-le}
 use Rattle.t1s_world.proofs.WorldLemmas.{past-suc, past-zero, length-sensed_by, length-nodes}
 use Rattle.t1s_cable.specs.Stands.{Stands as CableStands, no_puts}
 use Rattle.t1s_cable.proofs.Histories.{at_depth_same}

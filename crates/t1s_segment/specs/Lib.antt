@@ -3,7 +3,7 @@ pub mod Receiver
 pub mod Transmitter
 pub mod TransmitterPart
 pub mod Node
-pub mod Told
+pub mod EventRecords
 pub mod Totals
 pub mod Track
 pub mod World

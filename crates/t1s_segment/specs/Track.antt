@@ -4,30 +4,30 @@ use Rattle.t1s_symbols.specs.declared.Quarter.{Quarter}
 use Rattle.t1s_symbols.specs.declared.Heard.{Heard}
 use Rattle.t1s_world.specs.World.{Machine}
 use Rattle.t1s_segment.specs.declared.track.Track.{Track}
-use Rattle.t1s_segment.specs.Told.{Told, StatusTold, BeaconTold, QuietTold}
+use Rattle.t1s_segment.specs.EventRecords.{EventRecord, StatusRecord, BeaconRecord, QuietRecord}
 use Rattle.t1s_segment.specs.Node.{node_drive, node_hear}
 
 -- what happens in a drive phase: what is driven, and the events
 pub record Happened : Type 0 where
   pub quarter : Option Quarter
-  pub events : List Told
+  pub events : List EventRecord
 
 -- what happens in a hear phase
 pub record Sensed : Type 0 where
   pub clash : Bool
 
 -- the status was OK or not, and is
-abbrev pub status_events : ℕ → ℕ → Bool → Bool → List Told
+abbrev pub status_events : ℕ → ℕ → Bool → Bool → List EventRecord
 status_events t node false false = []
-status_events t node false true = StatusTold t node true ∷ []
-status_events t node true false = StatusTold t node false ∷ []
+status_events t node false true = StatusRecord t node true ∷ []
+status_events t node true false = StatusRecord t node false ∷ []
 status_events t node true true = []
 
 -- the node drove in the last tick or not, and drives this. A drive of a node without frames is a beacon
-abbrev pub drive_events : ℕ → ℕ → Bool → Option Quarter → List Told
+abbrev pub drive_events : ℕ → ℕ → Bool → Option Quarter → List EventRecord
 drive_events t node false None = []
-drive_events t node false (Some q) = BeaconTold t node ∷ []
-drive_events t node true None = QuietTold t node ∷ []
+drive_events t node false (Some q) = BeaconRecord t node ∷ []
+drive_events t node true None = QuietRecord t node ∷ []
 drive_events t node true (Some q) = []
 
 abbrev pub driven_track : Track → Track

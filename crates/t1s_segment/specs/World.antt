@@ -6,13 +6,13 @@ use Rattle.t1s_symbols.specs.declared.Heard.{Heard}
 use Rattle.t1s_symbols.specs.declared.Heard.TheVariants.{Nothing}
 use Rattle.t1s_symbols.specs.declared.Quarter.{Quarter}
 use Rattle.t1s_world.specs.World.{Past, past, after_drive, driven_by, driven_at, heard_at, sensed_at}
-use Rattle.t1s_world.specs.Telling.{first_below, count_below}
+use Rattle.t1s_world.specs.Events.{first_below, count_below}
 use Rattle.plca_control.specs.declared.ControlSet.{ControlSet}
 use Rattle.t1s_script.specs.declared.script.Script.{Script}
 use Rattle.t1s_script.specs.declared.script.NodeLine.{NodeLine}
 use Rattle.t1s_segment.specs.declared.track.Track.{Track}
 use Rattle.t1s_segment.specs.declared.totals.NodeTotals.{NodeTotals}
-use Rattle.t1s_segment.specs.Told.{Told}
+use Rattle.t1s_segment.specs.EventRecords.{EventRecord}
 use Rattle.t1s_segment.specs.Node.{node_start}
 use Rattle.t1s_segment.specs.Totals.{totals_with, after_clash}
 use Rattle.t1s_segment.specs.Track.{Happened, Sensed, track_machine}
@@ -40,11 +40,11 @@ abbrev pub driven_in : Script → ℕ → ℕ → Option Quarter
 driven_in s i t = driven_at track_machine (places_of s) (first_tracks s) t i
 
 -- the events of tick t, from what the nodes keep before it: the nodes ascending
-abbrev pub events_of : ℕ → List Track → List Told
+abbrev pub events_of : ℕ → List Track → List EventRecord
 events_of t nodes = flat_map (λ (h : Happened). h.events) (driven_by track_machine t nodes)
 
 -- the events of tick t
-unfoldable pub events_at : Script → ℕ → List Told
+unfoldable pub events_at : Script → ℕ → List EventRecord
 events_at s t = events_of t (world s t).nodes
 
 -- the status of every node is OK after the drive phase

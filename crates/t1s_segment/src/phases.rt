@@ -2,7 +2,7 @@ ghost use Rattle.std.specs.Prelude.{◌≡◌, ◌<◌, ◌≤◌, List, Option,
 ghost use Rattle.t1s_symbols.specs.declared.Quarter.{Quarter};
 ghost use Rattle.t1s_world.specs.Hearing.{heard};
 ghost use Rattle.t1s_world.specs.Lists.{each_with};
-ghost use Rattle.t1s_world.specs.Telling.{AreTold};
+ghost use Rattle.t1s_world.specs.Events.{SeesEvents};
 ghost use Rattle.t1s_world.specs.World.{after_drive, after_hear, at_depth, row_of, sensed_by};
 ghost use Rattle.t1s_cable.specs.Stands.{Stands, no_puts};
 ghost use Rattle.t1s_segment.specs.State.{kept_tick};
@@ -24,7 +24,7 @@ pub fn drive_all<W: Watch>(tracks: &mut [Track], cable: &mut Cable, tick: u64, w
     ensures places { cable.new.places ≡ cable.old.places }
     ensures put { (past : List (List (Option Quarter))) → Stands (no_puts cable.old.places ∷ past) cable.old →
         Stands (row_of track_machine tick tracks.old ∷ past) cable.new }
-    ensures told { AreTold W.sees watch.old (events_of tick tracks.old) watch.new }
+    ensures events { SeesEvents W.sees watch.old (events_of tick tracks.old) watch.new }
 {
     for i in 0..tracks.len() {
         let quarter = tracks[i].drive(tick, watch);

@@ -58,7 +58,7 @@ fn settled_after(settled: Option<u64>, tick: u64, ok: bool) -> Option<u64>
 impl Segment {
     ghost use Rattle.std.specs.Prelude.{◌≡◌, ℕ, ◌+◌, ◌<◌, ◌≤◌, ◌==◌, find, IfOk, IfSome, IsTrue, ◌↔◌};
     ghost use Rattle.t1s_symbols.specs.Ranges.{IsHeard};
-    ghost use Rattle.t1s_world.specs.Telling.{AreTold};
+    ghost use Rattle.t1s_world.specs.Events.{SeesEvents};
     ghost use Rattle.t1s_script.specs.Script.{IsScript};
     ghost use Rattle.t1s_script.specs.declared.script.Script.{Script};
     ghost use Rattle.t1s_segment.specs.declared.totals.NodeTotals.{NodeTotals};
@@ -110,7 +110,7 @@ impl Segment {
         requires { 0 < ticks_left self.old }
         ensures left { ticks_left self.new + 1 ≡ ticks_left self.old }
         ensures stands { (s : Script) (t : ℕ) → Stands s t self.old → Stands s (t + 1) self.new }
-        ensures told { (s : Script) (t : ℕ) → Stands s t self.old → AreTold W.sees watch.old (events_at s t) watch.new }
+        ensures events { (s : Script) (t : ℕ) → Stands s t self.old → SeesEvents W.sees watch.old (events_at s t) watch.new }
     {
         let tick = self.tick;
         self.cable.turn();

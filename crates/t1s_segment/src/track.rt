@@ -1,5 +1,5 @@
 ghost use Rattle.std.specs.Prelude.{◌≡◌, ◌*◌, ◌==◌, IsTrue, position};
-ghost use Rattle.t1s_world.specs.Telling.{AreTold};
+ghost use Rattle.t1s_world.specs.Events.{SeesEvents};
 ghost use Rattle.plca_control.specs.Ranges.{IsControlSet};
 ghost use Rattle.t1s_segment.specs.declared.track.Track.{Track};
 ghost use Rattle.t1s_segment.specs.Track.{drive_events, drive_track, hear_track, status_events};
@@ -27,7 +27,7 @@ pub struct Track {
 
 /// Tells that a status became OK or ceased to be.
 fn tell_status<W: Watch>(watch: &mut W, tick: u64, node: u8, before: bool, ok: bool)
-    ensures { AreTold W.sees watch.old (status_events tick node before ok) watch.new }
+    ensures { SeesEvents W.sees watch.old (status_events tick node before ok) watch.new }
 {
     if ok != before {
         watch.event(&Event::StatusIs { tick, node, ok });
@@ -36,7 +36,7 @@ fn tell_status<W: Watch>(watch: &mut W, tick: u64, node: u8, before: bool, ok: b
 
 /// Tells that a drive begins or has ended.
 fn tell_drive<W: Watch>(watch: &mut W, tick: u64, node: u8, before: bool, quarter: Option<Quarter>)
-    ensures { AreTold W.sees watch.old (drive_events tick node before quarter) watch.new }
+    ensures { SeesEvents W.sees watch.old (drive_events tick node before quarter) watch.new }
 {
     match quarter {
         Some(_) => {
@@ -78,7 +78,7 @@ impl Track {
     pub fn drive<W: Watch>(&mut self, tick: u64, watch: &mut W) -> Option<Quarter>
         ensures track { self.new ≡ (drive_track tick self.old).0 }
         ensures quarter { result ≡ (drive_track tick self.old).1.quarter }
-        ensures told { AreTold W.sees watch.old (drive_track tick self.old).1.events watch.new }
+        ensures events { SeesEvents W.sees watch.old (drive_track tick self.old).1.events watch.new }
     {
         if tick < self.start {
             return None;

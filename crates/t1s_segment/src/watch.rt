@@ -12,11 +12,11 @@ pub enum Event {
 /// Who is told the events of a run. `sees` relates a watch before an event, the event, and the watch
 /// after it.
 pub trait Watch {
-    ghost use Rattle.t1s_segment.specs.Told.{Told, told};
+    ghost use Rattle.t1s_segment.specs.EventRecords.{EventRecord, event_record};
 
-    ghost sees: { Self → Told → Self → Type 0 };
+    ghost sees: { Self → EventRecord → Self → Type 0 };
 
     /// Takes an event.
     fn event(&mut self, e: &Event)
-        ensures { sees self.old (told e.now) self.new };
+        ensures { sees self.old (event_record e.now) self.new };
 }

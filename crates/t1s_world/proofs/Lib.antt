@@ -1,4 +1,4 @@
 pub mod ListLemmas
 pub mod HearingLemmas
 pub mod WorldLemmas
-pub mod TellingLemmas
+pub mod EventLemmas

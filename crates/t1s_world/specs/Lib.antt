@@ -1,5 +1,5 @@
 pub mod Hearing
 pub mod World
 pub mod Drives
-pub mod Telling
+pub mod Events
 pub mod Lists

@@ -2,7 +2,7 @@
 //!
 //! Nearly all of this crate is definitions and lemmas: `specs/Hearing.antt` says what a node hears,
 //! `specs/World.antt` is the recursion on ticks over any machine that a node may be, `specs/Drives.antt`
-//! says what a drive is, and `specs/Telling.antt` how events are told. The layers above show that what
+//! says what a drive is, and `specs/Events.antt` how events are told. The layers above show that what
 //! they keep, in bounded room, stands for this world, and cite the lemmas of `proofs/`.
 #![tactic(auto)]
 

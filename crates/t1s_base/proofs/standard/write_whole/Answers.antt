@@ -16,5 +16,5 @@ loop-taken-preserved g c =
     ap (λ xs. take before piece ++ take count xs) rest ∙ sym (take-add before count piece) in
     record {
       within = omega (arith, c.in-Ok.ensures.bound, ap length rest, length-drop before piece);
-      front = subst (Appends (contents c.args.writer.now) (contents c.write.new.self)) longer (Appends-trans _ _ _ _ _ c.loop-taken.invariant.front c.in-Ok.ensures.bytes);
+      prefix = subst (Appends (contents c.args.writer.now) (contents c.write.new.self)) longer (Appends-trans _ _ _ _ _ c.loop-taken.invariant.prefix c.in-Ok.ensures.bytes);
     }

@@ -1,6 +1,6 @@
 use Rattle.std.proofs.Common.{◌∷◌, [], ◌++◌, refl, sym}
-use Rattle.t1s_base.specs.Octets.{Grows, GrowsByFront}
-use Rattle.t1s_capture.specs.Kept.{shown}
+use Rattle.t1s_base.specs.Octets.{Grows, GrowsByPrefix}
+use Rattle.t1s_capture.specs.HeldItems.{decoded_item}
 use Rattle.t1s_capture.specs.Stands.{Stands}
 use Rattle.t1s_cli.specs.DecodeText.{item_line}
 use Rattle.t1s_cli.proofs.DecodingLemmas.{silent_on, handed_on, stopped_at_item, stopped_at_offence}
@@ -13,17 +13,17 @@ returns-in-More-clause-ok g c first octets h =
 
 pub returns-in-Ok-clause-ok : goal.returns-in-Ok-clause-ok
 returns-in-Ok-clause-ok g c first octets h =
-    let grows : Grows (g.K.Sink.written c.args.sink.now) (g.K.Sink.written c.write.new.self) (item_line (shown c.item.result)) = rw (c.as_slice.ensures.value, c.item_line.ensures) at c.in-Ok.ensures.whole in
+    let grows : Grows (g.K.Sink.written c.args.sink.now) (g.K.Sink.written c.write.new.self) (item_line (decoded_item c.item.result)) = rw (c.as_slice.ensures.value, c.item_line.ensures) at c.in-Ok.ensures.whole in
     let stands : Stands (octets ++ c.args.octet ∷ []) c.release.result = rw c.release.ensures.decoder (c.in-Held.ensures.goes_on octets h.stands) in
-    handed_on g.K.Sink.written g.K.Sink.faults g.K.Sink.finished octets c.args.decoder first c.args.sink.now h c.args.octet c.release.result (shown c.item.result) c.write.new.self
-    stands ((c.in-Held.ensures.item octets (shown c.item.result) h.stands).0 (sym c.item.ensures.item)) grows c.in-Ok.ensures.cause.kept
+    handed_on g.K.Sink.written g.K.Sink.faults g.K.Sink.finished octets c.args.decoder first c.args.sink.now h c.args.octet c.release.result (decoded_item c.item.result) c.write.new.self
+    stands ((c.in-Held.ensures.item octets (decoded_item c.item.result) h.stands).0 (sym c.item.ensures.item)) grows c.in-Ok.ensures.cause.kept
 
 pub returns-in-Err-clause-err : goal.returns-in-Err-clause-err
 returns-in-Err-clause-err g c first octets h =
-    let front : GrowsByFront (g.K.Sink.written c.args.sink.now) (g.K.Sink.written c.write.new.self) (item_line (shown c.item.result)) =
-    (c.in-Err.field-0.taken, rw (c.as_slice.ensures.value, c.item_line.ensures) at c.in-Err.ensures.front) in
-    stopped_at_item g.K.Sink.written g.K.Sink.faults g.K.Sink.finished octets c.args.decoder first c.args.sink.now h c.args.octet c.in-Held.held.decoder (shown c.item.result) c.write.new.self
-    (c.in-Held.ensures.goes_on octets h.stands) ((c.in-Held.ensures.item octets (shown c.item.result) h.stands).0 (sym c.item.ensures.item)) front
+    let prefix : GrowsByPrefix (g.K.Sink.written c.args.sink.now) (g.K.Sink.written c.write.new.self) (item_line (decoded_item c.item.result)) =
+    (c.in-Err.field-0.taken, rw (c.as_slice.ensures.value, c.item_line.ensures) at c.in-Err.ensures.prefix) in
+    stopped_at_item g.K.Sink.written g.K.Sink.faults g.K.Sink.finished octets c.args.decoder first c.args.sink.now h c.args.octet c.in-Held.held.decoder (decoded_item c.item.result) c.write.new.self
+    (c.in-Held.ensures.goes_on octets h.stands) ((c.in-Held.ensures.item octets (decoded_item c.item.result) h.stands).0 (sym c.item.ensures.item)) prefix
     c.in-Err.ensures.cause.later c.in-Err.ensures.cause.failed
 
 pub returns-in-Refused-clause-err : goal.returns-in-Refused-clause-err

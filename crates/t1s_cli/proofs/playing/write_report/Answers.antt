@@ -8,7 +8,7 @@ loop-seg-init g c s stands = (0, stands, puts_no_tick g.K.Sink.written g.K.Sink.
 pub loop-seg-preserved : goal.loop-seg-preserved
 loop-seg-preserved g c s first =
     let (t, stands, so_far) = c.loop-seg.invariant s first in
-    (t + 1, c.tick.ensures.stands s t stands, puts_tick g.K.Sink.written g.K.Sink.faults s t c.args.writer.now c.loop-seg.writer c.tick.new.watch so_far (c.tick.ensures.told s t stands))
+    (t + 1, c.tick.ensures.stands s t stands, puts_tick g.K.Sink.written g.K.Sink.faults s t c.args.writer.now c.loop-seg.writer c.tick.new.watch so_far (c.tick.ensures.events s t stands))
 
 pub returns-clause-text : goal.returns-clause-text
 returns-clause-text g c s first =

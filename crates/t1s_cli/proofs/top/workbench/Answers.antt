@@ -1,6 +1,6 @@
 use Rattle.std.proofs.Common.{◌≡◌, ◌⊎◌, ℕ, true, List, Option, Some, Result, Ok, Global, inl, inr, ◌∙◌, ap}
 use Rattle.std.specs.Prelude.{IsOk}
-use Rattle.t1s_base.specs.Causes.{Rose}
+use Rattle.t1s_base.specs.Causes.{FaultCountRose}
 use Rattle.t1s_base.specs.Octets.{Grows}
 use Rattle.t1s_script.specs.Reading.{script_of}
 use Rattle.t1s_script.specs.declared.script.Script.{Script}
@@ -51,7 +51,7 @@ module _ (g : Over) (c : goal.After-drop-bytes g) (octets : List ℕ) (t : Scrip
   text_written text is e =
       ends_text g.K.Sink.written g.K.Sink.faults g.K.Sink.finished c.args.sink.now c.serve_octets.new.sink c.serve_octets.result (answer_of t octets) text (ends_of_task g c octets t told asked) is e
 
-  task_done : (text : List ℕ) → answer_of t octets ≡ Ok text → ¬ (Rose (g.K.Sink.faults c.args.sink.now) (g.K.Sink.faults c.serve_octets.new.sink)) → (c.serve_octets.result ≡ Done) ⊎ (c.serve_octets.result ≡ Memory)
+  task_done : (text : List ℕ) → answer_of t octets ≡ Ok text → ¬ (FaultCountRose (g.K.Sink.faults c.args.sink.now) (g.K.Sink.faults c.serve_octets.new.sink)) → (c.serve_octets.result ≡ Done) ⊎ (c.serve_octets.result ≡ Memory)
   task_done text is calm =
       ends_calm g.K.Sink.written g.K.Sink.faults g.K.Sink.finished c.args.sink.now c.serve_octets.new.sink c.serve_octets.result (answer_of t octets) Done (ends_of_task g c octets t told asked) (ap status_of is) calm
 
@@ -87,9 +87,9 @@ pub returns-in-Ok-clause-reads : goal.returns-in-Ok-clause-reads
 returns-in-Ok-clause-reads g c octets words told e =
     rest_of_reading (g.S.Source.left c.args.source.now) (g.S.Source.left c.read_whole.new.source) c.in-Ok.bytes.items octets c.in-Ok.ensures.octets c.in-Ok.ensures.whole c.in-Ok.ensures.bound told
 
-pub returns-in-Ok-clause-write_fault_front : goal.returns-in-Ok-clause-write_fault_front
-returns-in-Ok-clause-write_fault_front g c octets words told e =
-    (ends_of_task g c octets Run told (c.command_of.ensures.run.1 words)).front e
+pub returns-in-Ok-clause-write_fault_prefix : goal.returns-in-Ok-clause-write_fault_prefix
+returns-in-Ok-clause-write_fault_prefix g c octets words told e =
+    (ends_of_task g c octets Run told (c.command_of.ensures.run.1 words)).prefix e
 
 pub returns-in-Ok-clause-refused : goal.returns-in-Ok-clause-refused
 returns-in-Ok-clause-refused g c octets words told e =
@@ -117,9 +117,9 @@ pub returns-in-Ok-clause-checked : goal.returns-in-Ok-clause-checked
 returns-in-Ok-clause-checked g c octets s words told reads e =
     text_written g c octets Check told (c.command_of.ensures.check.1 words) (check_line s) (ap (answer_for Check) reads) e
 
-pub returns-in-Ok-clause-check_write_fault_front : goal.returns-in-Ok-clause-check_write_fault_front
-returns-in-Ok-clause-check_write_fault_front g c octets words told e =
-    (ends_of_task g c octets Check told (c.command_of.ensures.check.1 words)).front e
+pub returns-in-Ok-clause-check_write_fault_prefix : goal.returns-in-Ok-clause-check_write_fault_prefix
+returns-in-Ok-clause-check_write_fault_prefix g c octets words told e =
+    (ends_of_task g c octets Check told (c.command_of.ensures.check.1 words)).prefix e
 
 pub returns-in-Ok-clause-script_is_checked : goal.returns-in-Ok-clause-script_is_checked
 returns-in-Ok-clause-script_is_checked g c octets s words told reads calm_source calm_sink =
@@ -131,9 +131,9 @@ returns-in-Ok-clause-captured g c octets s node words told reads e =
     let has = named_node octets s node reads (answer_is_ok g c octets (Capture node) told asked e) in
     (has, text_written g c octets (Capture node) told asked (heard_text s node) (captured_answer octets s node true reads has) e)
 
-pub returns-in-Ok-clause-capture_write_fault_front : goal.returns-in-Ok-clause-capture_write_fault_front
-returns-in-Ok-clause-capture_write_fault_front g c octets node words told e =
-    (ends_of_task g c octets (Capture node) told ((c.command_of.ensures.capture node).1 words)).front e
+pub returns-in-Ok-clause-capture_write_fault_prefix : goal.returns-in-Ok-clause-capture_write_fault_prefix
+returns-in-Ok-clause-capture_write_fault_prefix g c octets node words told e =
+    (ends_of_task g c octets (Capture node) told ((c.command_of.ensures.capture node).1 words)).prefix e
 
 pub returns-in-Ok-clause-script_is_captured : goal.returns-in-Ok-clause-script_is_captured
 returns-in-Ok-clause-script_is_captured g c octets s node words told reads has calm_source calm_sink =

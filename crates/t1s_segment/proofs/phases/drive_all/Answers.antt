@@ -1,5 +1,5 @@
 use Rattle.std.proofs.Common.{take, drop, length, ◌++◌, arith, ◌<◌, ◌∙◌}
-use Rattle.t1s_world.proofs.TellingLemmas.{AreTold-append}
+use Rattle.t1s_world.proofs.EventLemmas.{SeesEvents-append}
 use Rattle.t1s_world.specs.World.{row_of}
 use Rattle.t1s_cable.specs.Stands.{no_puts}
 use Rattle.t1s_segment.specs.Track.{drive_track, track_machine}
@@ -25,10 +25,10 @@ loop-i-preserved g c =
       put = λ past stands.
           let row = row_of track_machine t (take i xs) ++ drop i (no_puts c.args.cable.now.places) in
           rw (c.drive-quarter.ensures.quarter, ← is, more) at (c.put.ensures.stands row past (before.put past stands));
-      told =
-          let told = rw (← is) at c.drive-quarter.ensures.told in
+      events =
+          let told = rw (← is) at c.drive-quarter.ensures.events in
           rw (events_more t xs ys i x lt before.tracks is)
-          (AreTold-append g.W.Watch.sees c.args.watch.now c.loop-i.watch c.drive-quarter.new.watch (events_of t (take i xs)) (drive_track t x).1.events before.told told);
+          (SeesEvents-append g.W.Watch.sees c.args.watch.now c.loop-i.watch c.drive-quarter.new.watch (events_of t (take i xs)) (drive_track t x).1.events before.events told);
     }
 
 pub returns-clause-put : goal.returns-clause-put

@@ -1,6 +1,6 @@
 use Rattle.std.proofs.Common.{◌≡◌, List, Option, ◌∷◌, ◌++◌, take, drop}
 use Rattle.t1s_symbols.specs.declared.Quarter.{Quarter}
-use Rattle.t1s_world.specs.Telling.{AreTold}
+use Rattle.t1s_world.specs.Events.{SeesEvents}
 use Rattle.t1s_world.specs.World.{after_drive, row_of}
 use Rattle.t1s_cable.specs.Stands.{Stands, no_puts}
 use Rattle.t1s_segment.specs.Track.{track_machine}
@@ -15,5 +15,5 @@ invariant-loop-i g l =
       row : l.cable.row ≡ row_of track_machine l.tick (take l.i l.initial.tracks) ++ drop l.i (no_puts l.initial.cable.places);
       put : (past : List (List (Option Quarter))) → Stands (no_puts l.initial.cable.places ∷ past) l.initial.cable →
           Stands ((row_of track_machine l.tick (take l.i l.initial.tracks) ++ drop l.i (no_puts l.initial.cable.places)) ∷ past) l.cable;
-      told : AreTold g.W.Watch.sees l.initial.watch (events_of l.tick (take l.i l.initial.tracks)) l.watch;
+      events : SeesEvents g.W.Watch.sees l.initial.watch (events_of l.tick (take l.i l.initial.tracks)) l.watch;
     }

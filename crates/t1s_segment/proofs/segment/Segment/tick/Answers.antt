@@ -5,11 +5,11 @@ use Rattle.t1s_segment.specs.World.{events_at}
 use Rattle.t1s_segment.proofs.TickSteps.{stands_next}
 use Rattle.t1s_segment.proofs.segment.Segment.tick.Goals as goal
 
-pub returns-clause-told : goal.returns-clause-told
+pub returns-clause-events : goal.returns-clause-events
 unfolding events_at
-returns-clause-told g c s t stands =
+returns-clause-events g c s t stands =
     let old = rw (← c.self.view_is) at stands in
-    rw (c.as_mut_slice.ensures.value, old.tick, old.nodes) at c.drive_all.ensures.told
+    rw (c.as_mut_slice.ensures.value, old.tick, old.nodes) at c.drive_all.ensures.events
 
 pub returns-clause-stands : goal.returns-clause-stands
 returns-clause-stands g c s t stands =

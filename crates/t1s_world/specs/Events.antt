@@ -4,9 +4,9 @@ use Rattle.std.specs.Prelude.{◌≡◌, ℕ, zero, suc, ◌+◌, Bool, List, []
 
 module _ {W E : Type 0} where
   -- a watch w that is told these events, one after another, may become v
-  abbrev pub AreTold : (W → E → W → Type 0) → W → List E → W → Type 0
-  AreTold sees w [] v = v ≡ w
-  AreTold sees w (e ∷ es) v = (u : W) × sees w e u × AreTold sees u es v
+  abbrev pub SeesEvents : (W → E → W → Type 0) → W → List E → W → Type 0
+  SeesEvents sees w [] v = v ≡ w
+  SeesEvents sees w (e ∷ es) v = (u : W) × sees w e u × SeesEvents sees u es v
 
 -- the events of all ticks below t, the oldest tick first
 unfoldable pub events_below : {E : Type 0} → (ℕ → List E) → ℕ → List E

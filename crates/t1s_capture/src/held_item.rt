@@ -1,8 +1,8 @@
 //! An item that is held.
 ghost use Rattle.std.specs.Prelude.{◌≡◌, ◌≤◌, length};
 ghost use Rattle.t1s_pcs_rx.specs.Views.{view_shown};
-ghost use Rattle.t1s_capture.specs.Handed.{handed_frame};
-ghost use Rattle.t1s_capture.specs.Kept.{handed, kept_view, shown};
+ghost use Rattle.t1s_capture.specs.DecodedItems.{frame_of_item};
+ghost use Rattle.t1s_capture.specs.HeldItems.{decoded_held_item, held_view, decoded_item};
 
 use crate::items::Item;
 use t1s_frame::FrameOctets;
@@ -10,7 +10,7 @@ use t1s_pcs_rx::{Closer, Kind, PieceView};
 
 /// A piece that is held, with the octets of its frame.
 #[derive(Drop)]
-pub struct KeptPiece {
+pub struct HeldPiece {
     pub lead: u16,
     pub groups: u16,
     pub closer: Closer,
@@ -20,10 +20,10 @@ pub struct KeptPiece {
 
 /// An item that is held.
 #[derive(Drop)]
-pub enum KeptItem {
+pub enum HeldItem {
     Piece {
         start: u64,
-        piece: KeptPiece,
+        piece: HeldPiece,
     },
     Beacon {
         start: u64,
@@ -45,9 +45,9 @@ pub enum KeptItem {
     },
 }
 
-impl KeptPiece {
+impl HeldPiece {
     fn lent(&self) -> PieceView<'_>
-        ensures view { view_shown result ≡ kept_view self.now }
+        ensures view { view_shown result ≡ held_view self.now }
         ensures fits { length result.frame.now ≤ 1522 }
     {
         PieceView {
@@ -60,28 +60,28 @@ impl KeptPiece {
     }
 }
 
-impl KeptItem {
+impl HeldItem {
     /// The item, with its frame lent.
     pub fn lent(&self) -> Item<'_>
-        ensures item { shown result ≡ handed self.now }
-        ensures fits { length (handed_frame (shown result)) ≤ 1522 }
+        ensures item { decoded_item result ≡ decoded_held_item self.now }
+        ensures fits { length (frame_of_item (decoded_item result)) ≤ 1522 }
     {
         match self {
-            KeptItem::Piece { start, piece } => Item::Piece {
+            HeldItem::Piece { start, piece } => Item::Piece {
                 start: *start,
                 view: piece.lent(),
             },
-            KeptItem::Beacon { start } => Item::Beacon { start: *start },
-            KeptItem::Run { start, end, pieces } => Item::Run {
+            HeldItem::Beacon { start } => Item::Beacon { start: *start },
+            HeldItem::Run { start, end, pieces } => Item::Run {
                 start: *start,
                 end: *end,
                 pieces: *pieces,
             },
-            KeptItem::Bare { start, end } => Item::Bare {
+            HeldItem::Bare { start, end } => Item::Bare {
                 start: *start,
                 end: *end,
             },
-            KeptItem::Torn {
+            HeldItem::Torn {
                 start,
                 end,
                 symbols,

@@ -9,20 +9,20 @@ use Rattle.t1s_capture.specs.Pieces.{history_behind, pieces_nibbles}
 use Rattle.t1s_capture.specs.Fronts.{in_burst, after_torn, behind, AreMadeOf}
 
 -- an item without its loan. Ticks count from the capture's start
-pub data Handed : Type 0 where
-  PieceItem : (start : ℕ) → (view : View) → Handed
-  BeaconItem : (start : ℕ) → Handed
-  RunItem : (start end pieces : ℕ) → Handed
-  BareItem : (start end : ℕ) → Handed
-  TornItem : (start end symbols blur : ℕ) → Handed
+pub data DecodedItem : Type 0 where
+  PieceItem : (start : ℕ) → (view : View) → DecodedItem
+  BeaconItem : (start : ℕ) → DecodedItem
+  RunItem : (start end pieces : ℕ) → DecodedItem
+  BareItem : (start end : ℕ) → DecodedItem
+  TornItem : (start end symbols blur : ℕ) → DecodedItem
 
 -- the octets of the frame that an item shows, frame check sequence included; a piece that is not good shows none
-abbrev pub handed_frame : Handed → List ℕ
-handed_frame (PieceItem start view) = view.frame
-handed_frame (BeaconItem start) = []
-handed_frame (RunItem start end pieces) = []
-handed_frame (BareItem start end) = []
-handed_frame (TornItem start end symbols blur) = []
+abbrev pub frame_of_item : DecodedItem → List ℕ
+frame_of_item (PieceItem start view) = view.frame
+frame_of_item (BeaconItem start) = []
+frame_of_item (RunItem start end pieces) = []
+frame_of_item (BareItem start end) = []
+frame_of_item (TornItem start end symbols blur) = []
 
 -- A piece ends with this octet, its closer. It starts with the first J of its lead, directly behind the closer of the
 -- piece before, or with the burst. Whether the burst is torn later does not matter.
@@ -37,7 +37,7 @@ pub record IsPieceOctet (before : List ℕ) (octet start : ℕ) (view : View) : 
   pub shows : view ≡ view_of (descrambler_after (history_behind items) (pieces_nibbles pieces)) piece
 
 -- the item of a burst that starts at this tick
-abbrev pub burst_item : ℕ → Beginning → Handed
+abbrev pub burst_item : ℕ → Beginning → DecodedItem
 burst_item start (beacon count) = BeaconItem start
 burst_item start (between [] lead) = BareItem start (start + 4 * symbol_count (between [] lead))
 burst_item start (between (p ∷ ps) lead) =
@@ -47,7 +47,7 @@ burst_item start (within pieces lead nibbles) = BeaconItem start
 burst_item start (ended pieces lead nibbles) = BeaconItem start
 
 -- A burst is complete before this octet, which begins a gap or ends the capture. It starts with its first symbol.
-pub record IsBurstOctet (before : List ℕ) (octet : ℕ) (item : Handed) : Type 0 where
+pub record IsBurstOctet (before : List ℕ) (octet : ℕ) (item : DecodedItem) : Type 0 where
   pub node : ℕ
   pub items : List CaptureItem
   pub symbols : Beginning
@@ -70,7 +70,7 @@ pub record IsTornOctet (before : List ℕ) (octet start end symbols blur : ℕ) 
 
 -- This octet, behind those before it, is the one at which the item is handed out. An octet past the limit hands out
 -- nothing.
-abbrev pub IsItemOctet : List ℕ → ℕ → Handed → Type 0
+abbrev pub IsItemOctet : List ℕ → ℕ → DecodedItem → Type 0
 IsItemOctet before octet (PieceItem start view) = IsPieceOctet before octet start view
 IsItemOctet before octet (BeaconItem start) = IsBurstOctet before octet (BeaconItem start)
 IsItemOctet before octet (RunItem start end pieces) = IsBurstOctet before octet (RunItem start end pieces)

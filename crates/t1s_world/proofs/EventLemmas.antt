@@ -1,12 +1,12 @@
--- Telling events one after another, and events and tests over the ticks below one.
+-- Events events one after another, and events and tests over the ticks below one.
 use Rattle.std.proofs.Common.{◌≡◌, ℕ, zero, suc, ◌+◌, ◌≤◌, Bool, List, [], ◌∷◌, ◌++◌, Some, None, true, false, cond, refl, add-one, arith}
 use Rattle.std.specs.Option.{option_or}
-use Rattle.t1s_world.specs.Telling.{AreTold, events_below, first_below, count_below}
+use Rattle.t1s_world.specs.Events.{SeesEvents, events_below, first_below, count_below}
 
 module _ {W E : Type 0} (sees : W → E → W → Type 0) where
-  pub AreTold-append : (w u v : W) (es fs : List E) → AreTold sees w es u → AreTold sees u fs v → AreTold sees w (es ++ fs) v
-  AreTold-append w u v [] fs e h = rw (← e) h
-  AreTold-append w u v (x ∷ es) fs h k = (h.0, h.1, AreTold-append h.0 u v es fs h.2 k)
+  pub SeesEvents-append : (w u v : W) (es fs : List E) → SeesEvents sees w es u → SeesEvents sees u fs v → SeesEvents sees w (es ++ fs) v
+  SeesEvents-append w u v [] fs e h = rw (← e) h
+  SeesEvents-append w u v (x ∷ es) fs h k = (h.0, h.1, SeesEvents-append h.0 u v es fs h.2 k)
 
 module _ {E : Type 0} (events : ℕ → List E) where
   pub events_below-zero : events_below events 0 ≡ []

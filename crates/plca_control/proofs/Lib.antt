@@ -1,3 +1,3 @@
 pub mod Rows
-pub mod Along
-pub mod InRange
+pub mod RunLaws
+pub mod RunRanges

@@ -1,9 +1,10 @@
--- What one row of the table, or one thing that a data path meets, keeps.
+-- What one row of the table, or one event, keeps.
 use Rattle.std.proofs.Common.{◌≡◌, ℕ, zero, suc, ◌<◌, Bool, true, false, List, [], ◌∷◌, ◌++◌, drop, refl, rules, arith, if◌then◌else◌}
 use Rattle.std.proofs.lemmas.List.{length-append, length-drop}
 use Rattle.std.proofs.lemmas.List.Elements.{All-append, All-drop}
 use Rattle.std.specs.Prelude.{IsTrue}
 use Rattle.std.specs.List.{All}
+use Rattle.std.proofs.lemmas.Bool.{cond_both}
 use Rattle.std.proofs.lemmas.Bool.Decides.{nat_tests}
 use Rattle.t1s_ring.specs.DelayLine.{IsLine}
 use Rattle.plca_data.specs.declared.DataIn.{DataIn}
@@ -13,11 +14,6 @@ use Rattle.plca_data.specs.declared.data_path.State.{State}
 use Rattle.plca_data.specs.DataPathTable.{is_full, pushed, idle, data_path_step}
 use Rattle.plca_data.specs.Ranges.{IsMacOut, in_range}
 use Rattle.plca_data.specs.Runs.{uses_line}
-
--- what holds of both values holds of the one that a test picks
-if_both : {A : Type 0} (P : A → Type 0) (test : Bool) (x y : A) → (test ≡ true → P x) → (test ≡ false → P y) → P (if test then x else y)
-if_both P true x y holds fails = holds refl
-if_both P false x y holds fails = fails refl
 
 -- the new state's count
 idle_in_range : (i : DataIn) (line : List ℕ) → IsTrue (in_range (idle i line).0)
@@ -39,7 +35,7 @@ one_more_is_line line x below room held = record {
 
 pub pushed_is_line : (mac : MacOut) (line : List ℕ) → IsMacOut mac → IsLine line → IsLine (pushed mac line)
 pushed_is_line Nothing line below held = held
-pushed_is_line (Nibble x) line below held = if_both IsLine (is_full line) _ _ (λ _. held) (λ room. one_more_is_line line x below room held)
+pushed_is_line (Nibble x) line below held = cond_both (is_full line) _ _ IsLine (λ _. held) (λ room. one_more_is_line line x below room held)
 pushed_is_line Ended line below held = held
 
 pub no_nibble_is_line : IsLine []

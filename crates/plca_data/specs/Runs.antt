@@ -6,25 +6,25 @@ use Rattle.plca_data.specs.declared.data_path.State.TheVariants.{Silent, Idle, H
 use Rattle.plca_data.specs.DataPathTable.{data_path_start, data_path_step}
 use Rattle.plca_data.specs.Ranges.{IsMacOut}
 
--- what a data path and its line meet: a tick, or that the transmitter takes the oldest nibble, if there is one
-pub data Met : Type 0 where
-  Tick : DataIn → Met
-  Pop : Met
+-- what happens to a data path and its line: a tick, or that the transmitter takes the oldest nibble, if there is one
+pub data PathEvent : Type 0 where
+  Tick : DataIn → PathEvent
+  Pop : PathEvent
 
--- what a tick asks for
-abbrev pub IsMet : Met → Type 0
-IsMet (Tick i) = IsMacOut i.mac
-IsMet Pop = Unit {0}
+-- a nibble that the MAC gives out in the tick is below 16
+abbrev pub IsPathEvent : PathEvent → Type 0
+IsPathEvent (Tick i) = IsMacOut i.mac
+IsPathEvent Pop = Unit {0}
 
--- a state and its line, after one thing more
-abbrev pub met : State × List ℕ → Met → State × List ℕ
-met kept (Tick i) = data_path_step kept.0 i kept.1
-met kept Pop = (kept.0, drop 1 kept.1)
+-- a state and its line after one more event
+abbrev pub after_event : State × List ℕ → PathEvent → State × List ℕ
+after_event kept (Tick i) = data_path_step kept.0 i kept.1
+after_event kept Pop = (kept.0, drop 1 kept.1)
 
--- a state and its line after all that they have met, the newest first
-abbrev pub run_of : List Met → State × List ℕ
+-- a state and its line after all of these events, the newest first
+abbrev pub run_of : List PathEvent → State × List ℕ
 run_of [] = (data_path_start, [])
-run_of (newest ∷ earlier) = met (run_of earlier) newest
+run_of (newest ∷ earlier) = after_event (run_of earlier) newest
 
 -- a frame waits in the line, or goes through it
 abbrev pub uses_line : State → Bool

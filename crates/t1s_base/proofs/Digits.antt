@@ -41,14 +41,14 @@ worth = search rules
 own : IsNumeralModel (λ ds. list_all is_ascii_digit ds ≡ true) value_of
 own = numerals_by_weight _ digits_alone value_of worth
 
-no_zero_in_front : (text : List ℕ) → 48 < get_or text 0 0 → has_leading_zero text ≡ false
-no_zero_in_front [] h = refl
-no_zero_in_front (d ∷ []) h = refl
-no_zero_in_front (d ∷ e ∷ ds) h = grind arith
+no_leading_zero : (text : List ℕ) → 48 < get_or text 0 0 → has_leading_zero text ≡ false
+no_leading_zero [] h = refl
+no_leading_zero (d ∷ []) h = refl
+no_leading_zero (d ∷ e ∷ ds) h = grind arith
 
 decimal_no_zero : (n : ℕ) → n < 10 ^ 10 → has_leading_zero (decimal n) ≡ false
 decimal_no_zero zero small = ap has_leading_zero (decimal_digit 0 (omega arith))
-decimal_no_zero (suc n) small = no_zero_in_front (decimal (suc n)) (first_decimal (suc n) (omega arith) (omega arith))
+decimal_no_zero (suc n) small = no_leading_zero (decimal (suc n)) (first_decimal (suc n) (omega arith) (omega arith))
 
 -- the text that is written for a number is read as that number
 pub number_of-decimal : (n : ℕ) → n < 10 ^ 10 → number_of (decimal n) ≡ Some n
@@ -69,10 +69,10 @@ record HasForm (text : List ℕ) : Type 0 where
   some : nat_le 1 (length text) ≡ true
   few : nat_le (length text) 10 ≡ true
   digits : list_all is_ascii_digit text ≡ true
-  front : has_leading_zero text ≡ false
+  no_zero : has_leading_zero text ≡ false
 
 form_of : (text : List ℕ) → is_number text ≡ true → HasForm text
-form_of text h = record { some = grind arith; few = grind arith; digits = grind arith; front = grind arith }
+form_of text h = record { some = grind arith; few = grind arith; digits = grind arith; no_zero = grind arith }
 
 -- no other text is read as that number
 pub decimal-number_of : (text : List ℕ) (n : ℕ) → number_of text ≡ Some n → text ≡ decimal n
@@ -82,4 +82,4 @@ decimal-number_of text n h =
     let some : 0 < length text = leb-true _ _ form.some in
     let few : length text ≤ 10 = leb-true _ _ form.few in
     let small : value_of text < 10 ^ 10 = digits_value_short own text 10 form.digits few in
-    sym (decimal-digits_value own text form.digits some (one_zero text form.front some) (omega arith)) ∙ ap decimal found.1
+    sym (decimal-digits_value own text form.digits some (one_zero text form.no_zero some) (omega arith)) ∙ ap decimal found.1

@@ -1,3 +1,3 @@
 pub mod Digits
 pub mod Growth
-mod Tells
+mod TraitClauses

@@ -2,3 +2,4 @@ pub mod Causes
 pub mod Octets
 pub mod Memory
 pub mod Numbers
+pub mod Limits

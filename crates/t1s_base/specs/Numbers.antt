@@ -3,7 +3,7 @@ use Rattle.std.specs.Prelude.{ℕ, ◌≡◌, ◌+◌, ◌-◌, ◌*◌, ◌^◌
 use Rattle.std.specs.Char.{is_ascii_digit}
 use Rattle.std.specs.List.{list_all}
 
--- a `0` stands in front of a further octet
+-- a `0` stands before a further octet
 abbrev pub has_leading_zero : List ℕ → Bool
 has_leading_zero [] = false
 has_leading_zero (octet ∷ []) = false
@@ -13,7 +13,7 @@ has_leading_zero (octet ∷ next ∷ rest) = octet == 48
 abbrev pub is_number : List ℕ → Bool
 is_number text = nat_le 1 (length text) && nat_le (length text) 10 && list_all is_ascii_digit text && not (has_leading_zero text)
 
--- what the digits are worth: each one times ten to the number of digits behind it
+-- what the digits are worth: each one times ten to the number of digits after it
 abbrev pub value_of : List ℕ → ℕ
 value_of [] = 0
 value_of (digit ∷ digits) = (digit - 48) * 10 ^ length digits + value_of digits

@@ -4,11 +4,12 @@
 //! refused only where the object's count of faults rose in that call, and what is written is
 //! appended. `specs/Causes.antt` says what a cause is, `specs/Octets.antt` what becomes of the octets,
 //! `specs/Memory.antt` what the sources and sinks of this crate keep, and `specs/Numbers.antt` which
-//! texts are numbers.
+//! texts are numbers. `specs/Limits.antt` says how large a segment and a run may be.
 #![tactic(auto)]
 
 mod calls;
 pub mod laws;
+mod limits;
 mod lines;
 mod memory;
 mod numbers;
@@ -18,6 +19,7 @@ mod standard;
 #[cfg(test)]
 mod tests;
 
+pub use limits::{LAST_NODE, MOST_NODES, MOST_TICKS};
 pub use lines::{Line, NoRoom, put_number, put_text};
 pub use memory::{MemSink, MemSource, NullSink, QuietSource};
 pub use numbers::read_number;

@@ -24,8 +24,8 @@ impl Model for QuietSource {
     ghost invariant = { λ source. source.at ≤ length source.octets.items };
 }
 
-/// Copies as many octets as fit into the front of `into`, and answers how many.
-fn copy_front(from: &[u8], into: &mut [u8]) -> usize
+/// Copies as many octets as fit into the first places of `into`, and answers how many.
+fn copy_prefix(from: &[u8], into: &mut [u8]) -> usize
     ensures count { result ≡ min (length into.old) (length from.now) }
     ensures octets { into.new ≡ take result from.now ++ drop result into.old }
 {
@@ -58,7 +58,7 @@ impl Source for QuietSource {
         ensures into { IfOk result (λ count. into.new ≡ take count self.old ++ drop count into.old) }
         ensures left { IfOk result (λ count. self.new ≡ drop count self.old) }
     {
-        let count = copy_front(&self.octets[self.at..], into);
+        let count = copy_prefix(&self.octets[self.at..], into);
         self.at += count;
         Ok(count)
     }

@@ -18,7 +18,7 @@ pub fn read_number(text: &[u8]) -> Option<u64>
     Some(worth(text))
 }
 
-/// Whether a `0` stands in front of a further octet.
+/// Whether a `0` stands before a further octet.
 fn begins_with_zero(text: &[u8]) -> bool
     ensures { result ≡ has_leading_zero text.now }
 {

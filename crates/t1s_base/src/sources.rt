@@ -17,8 +17,8 @@ pub trait Source {
     /// How often the source has failed. A count of 18446744073709551615 stays there.
     ghost faults: { Self → ℕ };
 
-    /// Reads the next octets into the front of `into`, and answers how many, which is 0 only at the
-    /// end of the input. What stands behind them in `into` may be anything. `Failed` takes nothing.
+    /// Reads the next octets into the first places of `into`, and answers how many, which is 0 only at the
+    /// end of the input. What stands after them in `into` may be anything. `Failed` takes nothing.
     fn read(&mut self, into: &mut [u8]) -> Result<usize, Failed>
         requires { 0 < length into.old }
         ensures bound { ReadsAtMost result into.new }

@@ -1,4 +1,4 @@
-pub mod Ends
-pub mod Heads
+pub mod FrameEnds
+pub mod HeadNibbles
 pub mod Rows
 pub mod Runs

@@ -4,13 +4,14 @@ use Rattle.std.proofs.lemmas.Bool.Decides.{nat_tests}
 use Rattle.std.proofs.lemmas.List.{take_more}
 use Rattle.t1s_ring.specs.Queue.{Queue, with_last}
 use Rattle.t1s_ring.specs.declared.queued.Queued.{Queued}
-use Rattle.t1s_mac.specs.Deference.{may_start}
-use Rattle.t1s_mac.specs.Laws.{Met, Offered, Tick, Run, met, run_of, jams, jam_on, given}
-use Rattle.t1s_mac.specs.Mac.{Row, row_of, deferring, sending, jamming, last_quarter, last_jam_nibble, last_attempt, preamble_nibbles}
+use Rattle.t1s_mac.specs.DeferenceTable.{may_start}
+use Rattle.t1s_mac.specs.Laws.{MacEvent, Offer, Tick, Run, run_after, run_of, jams, jam_on, given_nibbles}
+use Rattle.t1s_mac.specs.MacTable.{Row, row_of, deferring, sending, jamming, last_quarter, last_jam_nibble, last_attempt, preamble_nibbles}
 use Rattle.t1s_mac.specs.State.{Phase, Resting, Deferring, Waiting, Sending, Jamming, MacState, with_queue, holds_frame, head_nibbles, nibbles_in}
 use Rattle.t1s_mac.specs.declared.outcome.MacStep.{MacStep}
-use Rattle.t1s_mac.proofs.Heads.{nibbles_some}
-use Rattle.t1s_mac.proofs.Rows.{if_both, frame_there}
+use Rattle.t1s_mac.proofs.HeadNibbles.{nibbles_some}
+use Rattle.std.proofs.lemmas.Bool.{cond_both}
+use Rattle.t1s_mac.proofs.Rows.{frame_there}
 
 -- whether a state is Jamming, as a test and as a count of jams
 abbrev pub is_jamming : Phase → Bool
@@ -40,7 +41,7 @@ pub record Stands (phase : Phase) (q : Queue) (attempts : ℕ) (told : List MacS
   pub tries : attempts ≤ 15
   pub jammed : jams told ≡ attempts + jam_in phase
   pub on : jam_on told ≡ is_jamming phase
-  pub out : GivenIn phase (head_nibbles q) (given told)
+  pub out : GivenIn phase (head_nibbles q) (given_nibbles told)
 
 -- what a row tells
 abbrev pub step_of : Row → MacStep
@@ -55,10 +56,10 @@ nibbles_there [] some = absurd (omega arith)
 nibbles_there (x ∷ xs) some = nibbles_some x.frame
 
 deferring_stands : (q : Queue) (attempts : ℕ) (may : Bool) (told : List MacStep)
-    → 0 < length q.frames → attempts ≤ 15 → jams told ≡ attempts + 0 → jam_on told ≡ false → given told ≡ []
+    → 0 < length q.frames → attempts ≤ 15 → jams told ≡ attempts + 0 → jam_on told ≡ false → given_nibbles told ≡ []
     → RowStands told (deferring q attempts may)
 deferring_stands q attempts may told some tries jammed on out =
-    if_both (RowStands told) may _ _
+    cond_both may _ _ (RowStands told)
     (λ _.
     let nibbles : 0 < length (head_nibbles q) = nibbles_there q.frames some in
     record {
@@ -76,11 +77,11 @@ sending_stands : (nibble quarter : ℕ) (collided collision : Bool) (q : Queue) 
 sending_stands nibble quarter collided collision q attempts told h =
     let some : 0 < length q.frames = frame_there q.frames nibble h.there in
     let within : nibble < length (head_nibbles q) = grind (arith, nat_tests, h.there) in
-    if_both (RowStands told) (nat_lt quarter last_quarter) _ _
+    cond_both (nat_lt quarter last_quarter) _ _ (RowStands told)
     (λ _. record { there = h.there; tries = h.tries; jammed = h.jammed; on = h.on; out = h.out })
-    (λ _. if_both (RowStands told) ((collided || collision) && nat_le preamble_nibbles (nibble + 1)) _ _
+    (λ _. cond_both ((collided || collision) && nat_le preamble_nibbles (nibble + 1)) _ _ (RowStands told)
     (λ _. record { there = grind (arith, nat_tests); tries = h.tries; jammed = omega (arith, h.jammed); on = refl; out = tt })
-    (λ _. if_both (RowStands told) (nibble + 1 == length (head_nibbles q)) _ _
+    (λ _. cond_both (nibble + 1 == length (head_nibbles q)) _ _ (RowStands told)
     (λ _. record { there = refl; tries = omega arith; jammed = refl; on = refl; out = refl })
     (λ last. let more : nibble + 1 < length (head_nibbles q) = grind (arith, nat_tests, last, within) in
     record {
@@ -95,11 +96,11 @@ jamming_stands : (nibble quarter : ℕ) (q : Queue) (attempts drawn : ℕ) (told
     → Stands (Jamming nibble quarter) q attempts told
     → RowStands told (jamming nibble quarter q attempts drawn)
 jamming_stands nibble quarter q attempts drawn told h =
-    if_both (RowStands told) (nat_lt quarter last_quarter) _ _
+    cond_both (nat_lt quarter last_quarter) _ _ (RowStands told)
     (λ _. record { there = h.there; tries = h.tries; jammed = h.jammed; on = h.on; out = tt })
-    (λ _. if_both (RowStands told) (nat_lt nibble last_jam_nibble) _ _
+    (λ _. cond_both (nat_lt nibble last_jam_nibble) _ _ (RowStands told)
     (λ _. record { there = h.there; tries = h.tries; jammed = h.jammed; on = h.on; out = tt })
-    (λ _. if_both (RowStands told) (attempts == last_attempt) _ _
+    (λ _. cond_both (attempts == last_attempt) _ _ (RowStands told)
     (λ _. record { there = refl; tries = omega arith; jammed = refl; on = refl; out = refl })
     (λ last. let fewer : attempts + 1 ≤ 15 = grind (arith, nat_tests, last, h.tries) in
     record { there = h.there; tries = fewer; jammed = omega (arith, h.jammed); on = refl; out = refl })))
@@ -108,13 +109,13 @@ pub row_stands : (phase : Phase) (q : Queue) (attempts : ℕ) (may collision : B
     → Stands phase q attempts told
     → RowStands told (row_of phase q attempts may collision drawn)
 row_stands Resting q attempts may collision drawn told h =
-    if_both (RowStands told) (nat_lt 0 (length q.frames)) _ _
+    cond_both (nat_lt 0 (length q.frames)) _ _ (RowStands told)
     (λ some. deferring_stands q attempts may told (grind (arith, nat_tests, some)) h.tries h.jammed h.on h.out)
     (λ _. record { there = refl; tries = h.tries; jammed = h.jammed; on = h.on; out = h.out })
 row_stands Deferring q attempts may collision drawn told h =
     deferring_stands q attempts may told (grind (arith, nat_tests, h.there)) h.tries h.jammed h.on h.out
 row_stands (Waiting left) q attempts may collision drawn told h =
-    if_both (RowStands told) (left == 0) _ _
+    cond_both (left == 0) _ _ (RowStands told)
     (λ _. deferring_stands q attempts may told (grind (arith, nat_tests, h.there)) h.tries h.jammed h.on h.out)
     (λ _. record { there = h.there; tries = h.tries; jammed = h.jammed; on = h.on; out = h.out })
 row_stands (Sending nibble quarter collided) q attempts may collision drawn told h =
@@ -155,20 +156,19 @@ offer_stands (Jamming nibble quarter) queue attempts q told h =
 
 module _ {D : Type 0} where
   abbrev pub RunStands : Run D → Type 0
-  RunStands run = Stands run.mac.phase run.mac.queue run.mac.attempts run.told
+  RunStands run = Stands run.mac.phase run.mac.queue run.mac.attempts run.steps
 
-  met_stands : (answer : D → ℕ → ℕ) (after : D → D) (run : Run D) (newest : Met) → RunStands run → RunStands (met answer after run newest)
-  met_stands answer after run (Offered q) h =
-      if_both (λ (m : MacState D). Stands m.phase m.queue m.attempts run.told) (nat_lt (length run.mac.queue.frames) run.mac.queue.room)
-      (with_queue run.mac (with_last run.mac.queue q)) run.mac
-      (λ _. offer_stands run.mac.phase run.mac.queue run.mac.attempts q run.told h)
+  run_after_stands : (answer : D → ℕ → ℕ) (after : D → D) (run : Run D) (newest : MacEvent) → RunStands run → RunStands (run_after answer after run newest)
+  run_after_stands answer after run (Offer q) h =
+      cond_both (nat_lt (length run.mac.queue.frames) run.mac.queue.room) (with_queue run.mac (with_last run.mac.queue q)) run.mac (λ (m : MacState D). Stands m.phase m.queue m.attempts run.steps)
+      (λ _. offer_stands run.mac.phase run.mac.queue run.mac.attempts q run.steps h)
       (λ _. h)
-  met_stands answer after run (Tick carrier collision) h =
+  run_after_stands answer after run (Tick carrier collision) h =
       row_stands run.mac.phase run.mac.queue run.mac.attempts (may_start run.mac.deference carrier) collision
-      (answer run.mac.draws (run.mac.attempts + 1)) run.told h
+      (answer run.mac.draws (run.mac.attempts + 1)) run.steps h
 
-  pub run_stands : (answer : D → ℕ → ℕ) (after : D → D) (queue : Queue) (draws : D) (earlier : List Met) → RunStands (run_of answer after queue draws earlier)
+  pub run_stands : (answer : D → ℕ → ℕ) (after : D → D) (queue : Queue) (draws : D) (earlier : List MacEvent) → RunStands (run_of answer after queue draws earlier)
   run_stands answer after queue draws [] =
       record { there = refl; tries = omega arith; jammed = refl; on = refl; out = refl }
   run_stands answer after queue draws (newest ∷ earlier) =
-      met_stands answer after (run_of answer after queue draws earlier) newest (run_stands answer after queue draws earlier)
+      run_after_stands answer after (run_of answer after queue draws earlier) newest (run_stands answer after queue draws earlier)

@@ -1,7 +1,7 @@
-pub mod Deference
+pub mod DeferenceTable
 pub mod Draws
 pub mod Laws
-pub mod Mac
-pub mod Picked
+pub mod MacTable
+pub mod PickedDraws
 pub mod State
-pub mod Turn
+pub mod TurnRow

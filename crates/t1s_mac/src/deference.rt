@@ -1,6 +1,6 @@
 //! Whether the MAC may start a frame.
 ghost use Rattle.std.specs.Prelude.{◌≡◌};
-ghost use Rattle.t1s_mac.specs.Deference.{may_start, deference_step};
+ghost use Rattle.t1s_mac.specs.DeferenceTable.{may_start, deference_step};
 
 /// How many ticks an interframe gap lasts, once it has begun, whatever the carrier.
 const INTERFRAME_GAP: u8 = 96;

@@ -2,7 +2,7 @@
 ghost use Rattle.std.specs.Prelude.{◌≡◌, ◌<◌, ◌↔◌, IsOk, IsErr, OnOk, IfErr, Some, IsSome, length};
 ghost use Rattle.plca_data.specs.Ranges.{IsMacOut};
 ghost use Rattle.t1s_ring.specs.Queue.{with_last, IsQueue};
-ghost use Rattle.t1s_mac.specs.Mac.{mac_step, LeavesByNote};
+ghost use Rattle.t1s_mac.specs.MacTable.{mac_step, LeavesByNote};
 ghost use Rattle.t1s_mac.specs.State.{mac_start, IsMac, number_of, with_queue};
 
 use crate::deference::Deference;

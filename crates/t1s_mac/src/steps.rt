@@ -1,8 +1,8 @@
 //! One tick of each typed state, which is consumed by its step.
 ghost use Rattle.std.specs.Prelude.{◌≡◌, ◌+◌, ◌<◌, ◌≤◌, ◌||◌, false, IsTrue, length, slice_index, if◌then◌else◌};
-ghost use Rattle.t1s_mac.specs.Mac.{Row, row_of, deferring, resting, waiting, sending, jamming};
+ghost use Rattle.t1s_mac.specs.MacTable.{Row, row_of, deferring, resting, waiting, sending, jamming};
 ghost use Rattle.t1s_mac.specs.State.{phase_of, queue_of, holds_frame, head_nibbles, head_number};
-ghost use Rattle.t1s_mac.specs.Turn.{row_left, IsTurn};
+ghost use Rattle.t1s_mac.specs.TurnRow.{row_left, IsTurn};
 
 use crate::states::{Deferring, Jamming, Resting, Sending, State, Turn, Waiting};
 use crate::{Draws, MacNote, MacStep};
@@ -49,15 +49,6 @@ fn nibble_of_head(ring: &LentRing, place: u16) -> u8
     ensures range { result < 16 }
 {
     ring.head().frame.nibble_at(place).unwrap_or(0)
-}
-
-/// The place after one of the nibbles that carry the frame that is being sent.
-fn next_place(ring: &LentRing, place: u16) -> u16
-    requires { place < length (head_nibbles ring.now) }
-    ensures { result ≡ place + 1 }
-{
-    let _count = count_of_head(ring);
-    place + 1
 }
 
 /// A turn in which no frame starts.
@@ -171,7 +162,8 @@ impl Sending {
         ensures within { IsTurn result }
     {
         let Sending { ring, nibble, .. } = self;
-        let next = next_place(&ring, nibble);
+        let count = count_of_head(&ring);
+        let next = nibble + 1;
         if collided && next >= PREAMBLE_NIBBLES {
             let number = number_of_head(&ring);
             let jamming = Jamming {
@@ -182,7 +174,7 @@ impl Sending {
             let out = MacOut::Nibble(JAM_NIBBLE);
             return turn(State::Jamming(jamming), attempts, out, MacNote::Jam(number));
         }
-        if next == count_of_head(&ring) {
+        if next == count {
             let number = number_of_head(&ring);
             let ring = ring.spend();
             let state = State::Resting(Resting { ring });
@@ -224,7 +216,7 @@ impl Jamming {
         self.next_nibble(attempts, draws)
     }
 
-    /// The end of a nibble of a jam: its next nibble, or behind the last one the drop of the frame, or its backoff.
+    /// The end of a nibble of a jam: its next nibble, or after the last one the drop of the frame, or its backoff.
     fn next_nibble<D: Draws>(self, attempts: u8, draws: &mut D) -> Turn
         requires frame { 0 < length self.ring.frames }
         requires attempts { attempts ≤ 15 }

@@ -76,7 +76,7 @@ fn sixteenth_collision_drops_frame(rt: HostRuntime) -> Result<(), Fail> {
 }
 
 #[test]
-fn offer_while_sending_stands_behind_head(rt: HostRuntime) -> Result<(), Fail> {
+fn offer_while_sending_stands_after_head(rt: HostRuntime) -> Result<(), Fail> {
     let mut ring = FrameRing::with_room(rt.alloc(), 2)?;
     ring.offer(queued(7)?)?;
     let draws = PickedDraws::List(ListDraws::new(Vec::new(rt.alloc())));

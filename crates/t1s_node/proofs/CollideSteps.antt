@@ -7,17 +7,17 @@ use Rattle.t1s_ring.specs.declared.queued.Queued.{Queued}
 use Rattle.t1s_pcs_tx.specs.State.{Stage}
 use Rattle.plca_data.specs.declared.data_path.State.TheVariants.{WaitMac}
 use Rattle.plca_data.specs.DataPathTable.{collide, delay_pending, pending}
-use Rattle.t1s_mac.specs.Deference.{deference_step}
+use Rattle.t1s_mac.specs.DeferenceTable.{deference_step}
 use Rattle.t1s_mac.specs.declared.deference.Deference.TheVariants.{Busy}
 use Rattle.plca_data.specs.declared.MacOut.TheVariants.{Nothing}
 use Rattle.t1s_mac.specs.declared.outcome.MacNote.TheVariants.{None as NoNote}
-use Rattle.t1s_mac.specs.Mac.{Row, row}
+use Rattle.t1s_mac.specs.MacTable.{Row, row}
 use Rattle.t1s_node.proofs.HoldSteps.{told_in}
 use Rattle.t1s_node.proofs.MacTurns.{Heads, SendTurn, lasts, jams as begins_jam, gives, sends, JamTurn, jam_lasts, jam_goes, jam_ends, BacksOff, waits, BackoffTurn, backs_off, count_of, frame_there}
-use Rattle.t1s_node.proofs.Joint.{Collides, Jams, Delays, IsPending, Opens, collide_lasts, collide_gives, collide_jams, jam_lasts as jam_on, jam_gives, jam_ends as jam_over, delays_on, delay_ends, pends_on, pending_opens, Apart, Outcome, collides, jams, delays, pends, waits as waits_in, opens as opens_busy}
-use Rattle.t1s_node.proofs.Turning.{ApartTurn, still, opens, apart_own, FreeNext, frees}
+use Rattle.t1s_node.proofs.JointPlaces.{Collides, Jams, Delays, IsPending, Opens, collide_lasts, collide_gives, collide_jams, jam_lasts as jam_on, jam_gives, jam_ends as jam_over, delays_on, delay_ends, pends_on, pending_opens, Apart, Outcome, collides, jams, delays, pends, waits as waits_in, opens as opens_busy}
+use Rattle.t1s_node.proofs.JointTurns.{ApartTurn, still, opens, apart_own, FreeNext, frees}
 use Rattle.t1s_node.proofs.View.{View, InCommit, own_of}
-use Rattle.t1s_mac.proofs.Rows.{if_both}
+use Rattle.std.proofs.lemmas.Bool.{cond_both}
 
 module _ (own closed crs : Bool) (class : Class) (q : Queue) (v' : View) (out : Apart v') where
   pub collide_steps : (f : Queued) (k p : ℕ) (hit : Bool) (left : Row) (stage : Stage) (part : ℕ) (line' : List ℕ)
@@ -45,7 +45,7 @@ module _ (own closed crs : Bool) (class : Class) (q : Queue) (v' : View) (out : 
       → Heads q f → 1 ≤ n → BackoffTurn n q 1 left → FreeNext [] stage part line'
       → Outcome (Delays f n) [] v' left (deference_step Busy true false left.starts) stage part line' (delay_pending n (told_in own closed crs class left.out) line')
   delay_steps f n _ stage part _ heads least (backs_off {phase = phase} back last) (frees free most) =
-      if_both (λ kept. Outcome (Delays f n) [] v' (row phase q 1 Nothing NoNote) Busy stage part [] kept) (n == 1) _ _
+      cond_both (n == 1) _ _ (λ kept. Outcome (Delays f n) [] v' (row phase q 1 Nothing NoNote) Busy stage part [] kept)
       (λ e.
       let one : n ≡ 1 = grind (arith, nat_tests, e) in
       let none : n - 1 ≡ 0 = omega (arith, one) in

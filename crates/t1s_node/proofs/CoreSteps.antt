@@ -5,23 +5,23 @@ use Rattle.t1s_ring.specs.Queue.{Queue, with_last, empty_queue}
 use Rattle.t1s_ring.specs.declared.queued.Queued.{Queued}
 use Rattle.t1s_pcs_tx.specs.declared.TxCmd.{TxCmd}
 use Rattle.t1s_pcs_tx.specs.State.{Stage, is_closed}
-use Rattle.t1s_pcs_tx.specs.Transmit.{report_of}
+use Rattle.t1s_pcs_tx.specs.TransmitTable.{report_of}
 use Rattle.plca_control.specs.declared.ControlSet.{ControlSet}
 use Rattle.plca_control.specs.declared.State.{State as ControlStage}
 use Rattle.plca_control.specs.ControlTable.{control_row}
 use Rattle.plca_data.specs.declared.data_path.State.{State}
 use Rattle.plca_data.specs.DataPathTable.{data_path_step, carrier, collision}
 use Rattle.t1s_mac.specs.declared.deference.Deference.{Deference}
-use Rattle.t1s_mac.specs.Deference.{deference_step, may_start}
-use Rattle.t1s_mac.specs.Mac.{Row, row_of, mac_row, deferring, sending, jamming, last_quarter, last_jam_nibble, last_attempt, preamble_nibbles}
+use Rattle.t1s_mac.specs.DeferenceTable.{deference_step, may_start}
+use Rattle.t1s_mac.specs.MacTable.{Row, row_of, mac_row, deferring, sending, jamming, last_quarter, last_jam_nibble, last_attempt, preamble_nibbles}
 use Rattle.t1s_mac.specs.State.{Phase, Resting, Deferring, Waiting, Sending, Jamming, MacState, is_sending, with_queue, head_nibbles, nibbles_in, number_in}
-use Rattle.t1s_node.specs.Core.{Core, CoreDriven, core_start, LineReading, core_drive, core_offered, control_in, control_turn, tx_turn}
-use Rattle.t1s_node.specs.Runs.{core_offers, DrawsAreBounded}
-use Rattle.t1s_node.proofs.Joint.{Place, Asleep, Goes, Joint, Outcome, asleep, idles, holds, collides, jams, delays, pends, waits, rests_in, before, fed, given, ends, closes}
+use Rattle.t1s_node.specs.Core.{Core, CoreDrive, core_start, LineReading, core_drive, core_after_offer, control_in, control_turn, tx_turn}
+use Rattle.t1s_node.specs.Runs.{core_after_offers, DrawsAreBounded}
+use Rattle.t1s_node.proofs.JointPlaces.{Place, Asleep, Goes, Joint, Outcome, asleep, idles, holds, collides, jams, delays, pends, waits, rests_in, before, fed, given, ends, closes}
 use Rattle.t1s_node.proofs.JointSteps.{joint_steps, asleep_on}
 use Rattle.t1s_node.proofs.MacTurns.{Fit, Heads, Rests, rests, defers, BacksOff, waits as in_backoff, over}
 use Rattle.t1s_node.proofs.View.{View, view_of, cmd_of, own_of, counts, row_counts, row_turns, view_cmd, view_own, inactive_away, start_away, start_counts}
-use Rattle.t1s_mac.proofs.Rows.{if_both}
+use Rattle.std.proofs.lemmas.Bool.{cond_both}
 
 -- every frame stays a frame where the first leaves
 fit_dropped : (frames : List Queued) → Fit frames → Fit (drop 1 frames)
@@ -33,23 +33,23 @@ Fits left = Fit left.queue.frames
 
 fit_sending : (k p : ℕ) (hit : Bool) (q : Queue) (a : ℕ) → Fit q.frames → Fits (sending k p hit q a)
 fit_sending k p hit q a fit =
-    if_both Fits (nat_lt p last_quarter) _ _ (λ _. fit) (λ _.
-    if_both Fits (hit && nat_le preamble_nibbles (k + 1)) _ _ (λ _. fit) (λ _.
-    if_both Fits (k + 1 == length (head_nibbles q)) _ _ (λ _. fit_dropped q.frames fit) (λ _. fit)))
+    cond_both (nat_lt p last_quarter) _ _ Fits (λ _. fit) (λ _.
+    cond_both (hit && nat_le preamble_nibbles (k + 1)) _ _ Fits (λ _. fit) (λ _.
+    cond_both (k + 1 == length (head_nibbles q)) _ _ Fits (λ _. fit_dropped q.frames fit) (λ _. fit)))
 
 fit_jamming : (j p : ℕ) (q : Queue) (a drawn : ℕ) → Fit q.frames → Fits (jamming j p q a drawn)
 fit_jamming j p q a drawn fit =
-    if_both Fits (nat_lt p last_quarter) _ _ (λ _. fit) (λ _.
-    if_both Fits (nat_lt j last_jam_nibble) _ _ (λ _. fit) (λ _.
-    if_both Fits (a == last_attempt) _ _ (λ _. fit_dropped q.frames fit) (λ _. fit)))
+    cond_both (nat_lt p last_quarter) _ _ Fits (λ _. fit) (λ _.
+    cond_both (nat_lt j last_jam_nibble) _ _ Fits (λ _. fit) (λ _.
+    cond_both (a == last_attempt) _ _ Fits (λ _. fit_dropped q.frames fit) (λ _. fit)))
 
 fit_deferring : (q : Queue) (a : ℕ) (may : Bool) → Fit q.frames → Fits (deferring q a may)
 fit_deferring q a true fit = fit
 fit_deferring q a false fit = fit
 
 fit_row : (phase : Phase) (q : Queue) (a : ℕ) (may collision : Bool) (drawn : ℕ) → Fit q.frames → Fits (row_of phase q a may collision drawn)
-fit_row Resting q a may collision drawn fit = if_both Fits (nat_lt 0 (length q.frames)) _ _ (λ _. fit_deferring q a may fit) (λ _. fit)
-fit_row (Waiting left) q a may collision drawn fit = if_both Fits (left == 0) _ _ (λ _. fit_deferring q a may fit) (λ _. fit)
+fit_row Resting q a may collision drawn fit = cond_both (nat_lt 0 (length q.frames)) _ _ Fits (λ _. fit_deferring q a may fit) (λ _. fit)
+fit_row (Waiting left) q a may collision drawn fit = cond_both (left == 0) _ _ Fits (λ _. fit_deferring q a may fit) (λ _. fit)
 fit_row Deferring q a may collision drawn fit = fit_deferring q a may fit
 fit_row (Sending k p c) q a may collision drawn fit = fit_sending k p (c || collision) q a fit
 fit_row (Jamming j p) q a may collision drawn fit = fit_jamming j p q a drawn fit
@@ -107,7 +107,7 @@ module _ {D : Type 0} where
     pub fit : Fit c.mac.queue.frames
     pub counted : IsTrue (counts c.control.state)
 
-  pub record CoreStep (place : Place) (c : Core D) (d : CoreDriven D) : Type 0 where
+  pub record CoreStep (place : Place) (c : Core D) (d : CoreDrive D) : Type 0 where
     pub to : Place
     pub popped : List ℕ
     pub goes : Goes place d.step.note popped to
@@ -185,16 +185,15 @@ module _ {D : Type 0} where
         (step, to ∙ same)
 
   -- an offer leaves the place
-  abbrev one_offered : (place : Place) (c : Core D) (q : Queued) → IsFrame q.frame → Stands place c → Stands place (core_offered c q)
+  abbrev one_offered : (place : Place) (c : Core D) (q : Queued) → IsFrame q.frame → Stands place c → Stands place (core_after_offer c q)
   one_offered place c q frame h =
-      if_both (λ (m : MacState D). Stands place (record c { mac = m })) (nat_lt (length c.mac.queue.frames) c.mac.queue.room)
-      (with_queue c.mac (with_last c.mac.queue q)) c.mac
+      cond_both (nat_lt (length c.mac.queue.frames) c.mac.queue.room) (with_queue c.mac (with_last c.mac.queue q)) c.mac (λ (m : MacState D). Stands place (record c { mac = m }))
       (λ _. record { joint = joint_offered _ _ _ c.mac.queue q _ _ _ _ _ _ h.joint; fit = fit_more c.mac.queue.frames q h.fit frame; counted = h.counted })
       (λ _. h)
 
-  pub offered_stands : (place : Place) (c : Core D) (qs : List Queued) → Fit qs → Stands place c → Stands place (core_offers c qs)
+  pub offered_stands : (place : Place) (c : Core D) (qs : List Queued) → Fit qs → Stands place c → Stands place (core_after_offers c qs)
   offered_stands place c [] fit h = h
-  offered_stands place c (q ∷ qs) fit h = offered_stands place (core_offered c q) qs fit.1 (one_offered place c q fit.0 h)
+  offered_stands place c (q ∷ qs) fit h = offered_stands place (core_after_offer c q) qs fit.1 (one_offered place c q fit.0 h)
 
   -- the start
   pub start_stands : (set : ControlSet) (room : ℕ) (draws : D) → Stands Asleep (core_start set (empty_queue room) draws)

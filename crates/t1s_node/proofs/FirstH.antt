@@ -1,5 +1,6 @@
 -- The frame whose first H begins.
 use Rattle.std.proofs.Common.{◌≡◌, ℕ, zero, suc, ◌+◌, ◌==◌, ◌≤◌, Bool, true, false, ◌&&◌, if◌then◌else◌, List, slice_get, Option, Some, None, refl, sym, ◌∙◌, ap, subst, arith}
+use Rattle.std.specs.Cmp.{first_so, second_so}
 use Rattle.std.proofs.lemmas.Bool.Decides.{nat_tests}
 use Rattle.t1s_ring.specs.Queue.{Queue}
 use Rattle.t1s_ring.specs.declared.queued.Queued.{Queued}
@@ -9,28 +10,24 @@ use Rattle.t1s_mac.specs.State.{Phase, head_number, is_sending}
 use Rattle.t1s_pcs_tx.specs.State.{Stage, is_first_h, first_h_begins}
 use Rattle.t1s_node.specs.Core.{Core}
 use Rattle.t1s_node.specs.Laws.{IsPieceOf}
-use Rattle.t1s_node.specs.Runs.{CoreTick, DrawsAreBounded, Undisturbed, left_at, leaves_at}
-use Rattle.t1s_node.proofs.Along.{RunAt, Since, ticks, run_at, after_tick, after_place}
-use Rattle.t1s_node.proofs.Free.{Free, quiet, beacons, commits}
-use Rattle.t1s_node.proofs.Joint.{Place, InPiece, PieceTx, starting, sending, Joint, asleep, idles, holds, collides, jams, delays, pends, waits, rests_in, before, fed, given as given_all, ends, closes}
+use Rattle.t1s_node.specs.Runs.{CoreTick, DrawsAreBounded, IsUndisturbed, left_at, leaves_at}
+use Rattle.t1s_node.proofs.RunPlaces.{RunAt, Since, ticks, run_at, after_tick, after_place}
+use Rattle.t1s_node.proofs.NoPiece.{Free, quiet, beacons, commits}
+use Rattle.t1s_node.proofs.JointPlaces.{Place, InPiece, PieceTx, starting, sending, Joint, asleep, idles, holds, collides, jams, delays, pends, waits, rests_in, before, fed, given as given_all, ends, closes}
 use Rattle.t1s_node.proofs.MacTurns.{Heads}
 use Rattle.t1s_node.proofs.View.{View}
-use Rattle.t1s_node.proofs.Ways.{leaves_is}
-use Rattle.t1s_node.proofs.Whole.{whole_piece}
+use Rattle.t1s_node.proofs.FrameWays.{leaves_is}
+use Rattle.t1s_node.proofs.WholePiece.{whole_piece}
 
 free_no_h : (stage : Stage) (part r n : ℕ) → Free stage part r → (is_first_h stage && (n == 0)) ≡ true → ⊥
 free_no_h _ part r n quiet e = cc
 free_no_h _ part r n (beacons is) e = cc
 free_no_h _ part r n (commits is) e = cc
 
-both : (a b : Bool) → (a && b) ≡ true → (a ≡ true) × (b ≡ true)
-both true true e = (refl, refl)
-both true false e = absurd (cc)
-both false b e = absurd (cc)
-
 h_place : (i s : ℕ) (stage : Stage) → PieceTx i s stage → (is_first_h stage && (s == 0)) ≡ true → (i ≡ 2) × (s ≡ 0)
 h_place i s _ (starting early low) e =
-    let (third, first) = both (i == 2) (s == 0) e in
+    let third = first_so (i == 2) (s == 0) e in
+    let first = second_so (i == 2) (s == 0) e in
     (grind (arith, nat_tests, third), grind (arith, nat_tests, first))
 h_place i s _ (sending late low) e = absurd (cc)
 
@@ -75,7 +72,7 @@ some_of true false x n e = absurd (cc)
 some_of false s x n e = absurd (cc)
 
 module _ {D : Type 0} (answer : D → ℕ → ℕ) (after : D → D) (bounded : DrawsAreBounded answer) (start : Core D) (given : ℕ → CoreTick) (end : ℕ)
-    (calm : Undisturbed answer after start given end) (begin : RunAt answer after bounded start given end calm zero) where
+    (calm : IsUndisturbed answer after start given end) (begin : RunAt answer after bounded start given end calm zero) where
   pub sends_whole : (t number : ℕ) → t ≤ end → leaves_at answer after start given t ≡ Some number
       → (f : Queued) × (first : ℕ) × (slice_get (left_at answer after start given t).mac.queue.frames 0 ≡ Some f) × (f.number ≡ number)
       × (first + 8 ≡ t) × IsPieceOf answer after start given end f first

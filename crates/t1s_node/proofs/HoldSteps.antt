@@ -10,18 +10,18 @@ use Rattle.plca_data.specs.declared.MacOut.{MacOut}
 use Rattle.plca_data.specs.declared.data_path.State.{State}
 use Rattle.plca_data.specs.declared.data_path.State.TheVariants.{Hold, Collide, Transmit}
 use Rattle.plca_data.specs.DataPathTable.{hold, is_run_or_other, is_full, pushed}
-use Rattle.t1s_mac.specs.Deference.{deference_step}
+use Rattle.t1s_mac.specs.DeferenceTable.{deference_step}
 use Rattle.t1s_mac.specs.declared.deference.Deference.TheVariants.{Busy}
-use Rattle.t1s_mac.specs.Mac.{Row}
+use Rattle.t1s_mac.specs.MacTable.{Row}
 use Rattle.t1s_mac.specs.State.{Sending as Gives}
 use Rattle.t1s_mac.specs.declared.outcome.MacNote.TheVariants.{None as NoNote}
-use Rattle.t1s_node.proofs.Feeds.{Feeds, one_given, one_popped, popped_is, takes, full_or_room}
-use Rattle.t1s_node.proofs.Free.{Free, FreeTurn, goes_on, begins_commit, begins_piece, free_rest}
+use Rattle.t1s_node.proofs.LineFeed.{Feeds, one_given, one_popped, popped_is, takes, full_or_room}
+use Rattle.t1s_node.proofs.NoPiece.{Free, FreeTurn, goes_on, begins_commit, begins_piece, free_rest}
 use Rattle.t1s_node.proofs.MacTurns.{Heads, SendTurn, lasts, jams, gives, sends, lasting, giving, count_of, long}
-use Rattle.t1s_node.proofs.Joint.{Holds, Collides, Before, InPiece, Apart, commit, Aligned, starting, Outcome, holds, collides, before, fed, holds_on, hold_fails, hold_opens, hold_pops, nibble_of}
-use Rattle.t1s_node.proofs.Turning.{ApartTurn, still, opens, apart_turns, apart_own, HoldNext, aligned, aligned_turns, aligned_opens}
+use Rattle.t1s_node.proofs.JointPlaces.{Holds, Collides, Before, InPiece, Apart, commit, Aligned, starting, Outcome, holds, collides, before, fed, holds_on, hold_fails, hold_opens, hold_pops, nibble_of}
+use Rattle.t1s_node.proofs.JointTurns.{ApartTurn, still, opens, apart_turns, apart_own, HoldNext, aligned, aligned_turns, aligned_opens}
 use Rattle.t1s_node.proofs.View.{View, InCommit, cmd_of, own_of, Turns}
-use Rattle.t1s_mac.proofs.Rows.{if_both}
+use Rattle.std.proofs.lemmas.Bool.{cond_both}
 
 -- what the data path is told while the node takes part in the cycle and nothing has met its drive
 abbrev pub told_in : Bool → Bool → Bool → Class → MacOut → DataIn
@@ -54,7 +54,7 @@ module _ (closed crs : Bool) (class : Class) (f : Queued) (k p : ℕ) (q : Queue
   held v' _ line stage part _ out feeds (lasts less) (aligned {r = r'} free al) =
       let within : k < count_of f = omega (arith, (long f heads.frame).0, early) in
       let on : 4 * k + (p + 1) ≡ 4 * k + p + 1 = omega arith in
-      if_both (Held v' (lasting q k p 0 false) stage part line) (crs && is_run_or_other class) _ _
+      cond_both (crs && is_run_or_other class) _ _ (Held v' (lasting q k p 0 false) stage part line)
       (λ _. fails k (p + 1) v' _ line stage part r' on within (omega arith) out free refl refl refl refl)
       (λ _. record {
         to = Holds f k (p + 1);
@@ -67,9 +67,9 @@ module _ (closed crs : Bool) (class : Class) (f : Queued) (k p : ℕ) (q : Queue
       let on : 4 * (k + 1) + 0 ≡ 4 * k + p + 1 = omega (arith, three) in
       let x : ℕ = slice_index ns (k + 1) in
       let left : Row = giving q f k 0 false in
-      if_both (Held v' left stage part line) (crs && is_run_or_other class) _ _
+      cond_both (crs && is_run_or_other class) _ _ (Held v' left stage part line)
       (λ _. fails (k + 1) 0 v' _ line stage part r' on more (omega arith) out free refl refl refl refl)
-      (λ _. if_both (Held v' left stage part line) (is_full line) _ _
+      (λ _. cond_both (is_full line) _ _ (Held v' left stage part line)
       (λ _. fails (k + 1) 0 v' _ line stage part r' on more (omega arith) out free refl refl refl refl)
       (λ e.
       let room : length line < 97 = full_or_room line e in

@@ -7,17 +7,17 @@ use Rattle.t1s_ring.specs.declared.queued.Queued.{Queued}
 use Rattle.t1s_pcs_tx.specs.declared.TxCmd.TheVariants.{None as NoCmd}
 use Rattle.t1s_pcs_tx.specs.State.{Stage}
 use Rattle.plca_data.specs.DataPathTable.{idle, wait_mac}
-use Rattle.t1s_mac.specs.Deference.{deference_step}
+use Rattle.t1s_mac.specs.DeferenceTable.{deference_step}
 use Rattle.t1s_mac.specs.declared.deference.Deference.{Deference}
 use Rattle.t1s_mac.specs.declared.deference.Deference.TheVariants.{Busy}
 use Rattle.t1s_mac.specs.declared.outcome.MacNote.TheVariants.{None as NoNote}
-use Rattle.t1s_mac.specs.Mac.{Row}
-use Rattle.t1s_node.proofs.Feeds.{Feeds, first_given}
-use Rattle.t1s_node.proofs.Free.{FreeTurn, goes_on, falls_quiet}
+use Rattle.t1s_mac.specs.MacTable.{Row}
+use Rattle.t1s_node.proofs.LineFeed.{Feeds, first_given}
+use Rattle.t1s_node.proofs.NoPiece.{FreeTurn, goes_on, falls_quiet}
 use Rattle.t1s_node.proofs.HoldSteps.{told_in}
 use Rattle.t1s_node.proofs.MacTurns.{Heads, StartTurn, starts, stays, starting, started_busy, long}
-use Rattle.t1s_node.proofs.Joint.{Place, Asleep, Idles, Holds, Pauses, Before, Goes, sleeps, wakes, pauses_on, pause_ends, pause_lapses, pause_starts, Apart, away, pause, Outcome, asleep, idles, holds, rests_in, before}
-use Rattle.t1s_node.proofs.Turning.{FreeNext, frees, aligned_first}
+use Rattle.t1s_node.proofs.JointPlaces.{Place, Asleep, Idles, Holds, Pauses, Before, Goes, sleeps, wakes, pauses_on, pause_ends, pause_lapses, pause_starts, Apart, away, pause, Outcome, asleep, idles, holds, rests_in, before}
+use Rattle.t1s_node.proofs.JointTurns.{FreeNext, frees, aligned_first}
 use Rattle.t1s_node.proofs.View.{View, Away, InPause, own_of, Turns, pause_sends, pause_waits, pause_ends as pause_over}
 
 -- the first nibble in an empty line
@@ -66,7 +66,7 @@ pub pause_steps : (crs : Bool) (class : Class) (q : Queue) (n : ℕ) (v' : View)
     → Turns false false false (InPause n) v' → StartTurn q 0 may left → FreeNext [] stage part line'
     → Outcome Pauses [] v' left (deference_step d false sending left.starts) stage part line' (wait_mac (told_in (own_of v') false crs class left.out) line')
 pause_steps crs class q n _ d sending may left stage part line' (pause_sends e) mac tx = absurd (cc)
-pause_steps crs class q n _ d sending may _ stage part _ (pause_waits {m = m} e) (starts {f = f} go heads) (frees {r = r} free most) =
+pause_steps crs class q n _ d sending may _ stage part _ (pause_waits {m = m} e less some) (starts {f = f} go heads) (frees {r = r} free most) =
     subst (λ d'. Outcome Pauses [] (InPause m) (starting q f 0) d' stage part [] (wait_mac (told_in true false crs class (starting q f 0).out) []))
     (sym (started_busy d false sending))
     (record {
@@ -76,7 +76,7 @@ pause_steps crs class q n _ d sending may _ stage part _ (pause_waits {m = m} e)
       lost = refl;
       joint = before pause heads (omega arith) (omega arith) (omega (arith, most)) free (first_in q f heads);
     })
-pause_steps crs class q n _ d sending may _ stage part _ (pause_waits e) (stays resting) (frees free most) =
+pause_steps crs class q n _ d sending may _ stage part _ (pause_waits e less some) (stays resting) (frees free most) =
     record { to = Pauses; popped = []; goes = pauses_on; lost = refl; joint = rests_in resting free }
-pause_steps crs class q n _ d sending may left stage part line' (pause_over e) mac tx =
+pause_steps crs class q n _ d sending may left stage part line' (pause_over e less) mac tx =
     idle_steps Pauses (λ f. pause_lapses) pause_ends false false crs class q Away d false sending away may left stage part line' mac tx

@@ -8,18 +8,18 @@ use Rattle.t1s_mac.specs.declared.deference.Deference.{Deference}
 use Rattle.t1s_mac.specs.declared.outcome.MacNote.{MacNote}
 use Rattle.t1s_mac.specs.declared.outcome.MacNote.TheVariants.{Drop}
 use Rattle.t1s_mac.specs.declared.outcome.MacStep.{MacStep}
-use Rattle.t1s_mac.specs.Deference.{may_start}
+use Rattle.t1s_mac.specs.DeferenceTable.{may_start}
 use Rattle.t1s_mac.specs.Laws.{jams}
-use Rattle.t1s_mac.specs.Mac.{Row, row_of, deferring, sending, jamming, last_quarter, last_jam_nibble, last_attempt, preamble_nibbles}
+use Rattle.t1s_mac.specs.MacTable.{Row, row_of, deferring, sending, jamming, last_quarter, last_jam_nibble, last_attempt, preamble_nibbles}
 use Rattle.t1s_mac.specs.State.{Phase, Resting, Deferring, Waiting, Sending, Jamming, MacState, head_nibbles, with_queue}
 use Rattle.t1s_pcs_tx.specs.State.{Stage}
-use Rattle.t1s_node.specs.Core.{Core, core_offered, core_drive}
-use Rattle.t1s_node.specs.Runs.{CoreTick, DrawsAreBounded, Undisturbed, core_offers, core_at, found_at, left_at, note_at, told_before}
-use Rattle.t1s_node.proofs.Along.{RunAt, ticks, run_at}
-use Rattle.t1s_node.proofs.Joint.{Place, Told, as_before, now_sent, Goes, piece_lasts, piece_pops, Joint, asleep, idles, holds, collides, jams as jammed, delays, pends, waits, rests_in, before, fed, given as given_all, ends, closes}
+use Rattle.t1s_node.specs.Core.{Core, core_after_offer, core_drive}
+use Rattle.t1s_node.specs.Runs.{CoreTick, DrawsAreBounded, IsUndisturbed, core_after_offers, core_at, found_at, left_at, note_at, steps_before}
+use Rattle.t1s_node.proofs.RunPlaces.{RunAt, ticks, run_at}
+use Rattle.t1s_node.proofs.JointPlaces.{Place, Told, as_before, now_sent, Goes, piece_lasts, piece_pops, Joint, asleep, idles, holds, collides, jams as jammed, delays, pends, waits, rests_in, before, fed, given as given_all, ends, closes}
 use Rattle.t1s_node.proofs.MacTurns.{Rests, rests, defers, BacksOff, waits as in_backoff, over}
 use Rattle.t1s_node.proofs.View.{View}
-use Rattle.t1s_mac.proofs.Rows.{if_both}
+use Rattle.std.proofs.lemmas.Bool.{cond_both}
 
 -- a jam that is given out counts before its end does
 abbrev pub jam_in : Phase → ℕ
@@ -38,20 +38,20 @@ count_deferring q a false told e = e
 
 count_sending : (k p : ℕ) (hit : Bool) (q : Queue) (a : ℕ) (told : List MacStep) → jams told ≡ a + 0 → Counts told (sending k p hit q a)
 count_sending k p hit q a told e =
-    if_both (Counts told) (nat_lt p last_quarter) _ _ (λ _. e) (λ _.
-    if_both (Counts told) (hit && nat_le preamble_nibbles (k + 1)) _ _ (λ _. omega (arith, e)) (λ _.
-    if_both (Counts told) (k + 1 == length (head_nibbles q)) _ _ (λ _. refl) (λ _. e)))
+    cond_both (nat_lt p last_quarter) _ _ (Counts told) (λ _. e) (λ _.
+    cond_both (hit && nat_le preamble_nibbles (k + 1)) _ _ (Counts told) (λ _. omega (arith, e)) (λ _.
+    cond_both (k + 1 == length (head_nibbles q)) _ _ (Counts told) (λ _. refl) (λ _. e)))
 
 count_jamming : (j p : ℕ) (q : Queue) (a drawn : ℕ) (told : List MacStep) → jams told ≡ a + 1 → Counts told (jamming j p q a drawn)
 count_jamming j p q a drawn told e =
-    if_both (Counts told) (nat_lt p last_quarter) _ _ (λ _. e) (λ _.
-    if_both (Counts told) (nat_lt j last_jam_nibble) _ _ (λ _. e) (λ _.
-    if_both (Counts told) (a == last_attempt) _ _ (λ _. refl) (λ _. omega (arith, e))))
+    cond_both (nat_lt p last_quarter) _ _ (Counts told) (λ _. e) (λ _.
+    cond_both (nat_lt j last_jam_nibble) _ _ (Counts told) (λ _. e) (λ _.
+    cond_both (a == last_attempt) _ _ (Counts told) (λ _. refl) (λ _. omega (arith, e))))
 
 count_row : (phase : Phase) (q : Queue) (a : ℕ) (may collision : Bool) (drawn : ℕ) (told : List MacStep)
     → jams told ≡ a + jam_in phase → Counts told (row_of phase q a may collision drawn)
-count_row Resting q a may collision drawn told e = if_both (Counts told) (nat_lt 0 (length q.frames)) _ _ (λ _. count_deferring q a may told e) (λ _. e)
-count_row (Waiting left) q a may collision drawn told e = if_both (Counts told) (left == 0) _ _ (λ _. count_deferring q a may told e) (λ _. e)
+count_row Resting q a may collision drawn told e = cond_both (nat_lt 0 (length q.frames)) _ _ (Counts told) (λ _. count_deferring q a may told e) (λ _. e)
+count_row (Waiting left) q a may collision drawn told e = cond_both (left == 0) _ _ (Counts told) (λ _. count_deferring q a may told e) (λ _. e)
 count_row Deferring q a may collision drawn told e = count_deferring q a may told e
 count_row (Sending k p c) q a may collision drawn told e = count_sending k p (c || collision) q a told e
 count_row (Jamming j p) q a may collision drawn told e = count_jamming j p q a drawn told e
@@ -95,20 +95,20 @@ module _ {D : Type 0} (answer : D → ℕ → ℕ) (after : D → D) (start : Co
   abbrev Counted : List MacStep → MacState D → Type 0
   Counted told m = jams told ≡ m.attempts + jam_in m.phase
 
-  offers_counted : (told : List MacStep) (c : Core D) (qs : List Queued) → Counted told c.mac → Counted told (core_offers c qs).mac
+  offers_counted : (told : List MacStep) (c : Core D) (qs : List Queued) → Counted told c.mac → Counted told (core_after_offers c qs).mac
   offers_counted told c [] e = e
   offers_counted told c (q ∷ qs) e =
-      offers_counted told (core_offered c q) qs
-      (if_both (Counted told) (nat_lt (length c.mac.queue.frames) c.mac.queue.room) (with_queue c.mac (with_last c.mac.queue q)) c.mac (λ _. e) (λ _. e))
+      offers_counted told (core_after_offer c q) qs
+      (cond_both (nat_lt (length c.mac.queue.frames) c.mac.queue.room) (with_queue c.mac (with_last c.mac.queue q)) c.mac (Counted told) (λ _. e) (λ _. e))
 
-  tick_counted : (t : ℕ) → Counted (told_before answer after start given t) (found_at answer after start given t).mac
-      → Counted (told_before answer after start given (suc t)) (left_at answer after start given t).mac
+  tick_counted : (t : ℕ) → Counted (steps_before answer after start given t) (found_at answer after start given t).mac
+      → Counted (steps_before answer after start given (suc t)) (left_at answer after start given t).mac
   unfolding core_drive
   tick_counted t e =
       let c : Core D = found_at answer after start given t in
-      let crs : Bool = (given t).sensed.crs in
+      let crs : Bool = (given t).reading.crs in
       count_row c.mac.phase c.mac.queue c.mac.attempts (may_start c.mac.deference (carrier c.path crs)) (collision c.path)
-      (answer c.mac.draws (c.mac.attempts + 1)) (told_before answer after start given t) e
+      (answer c.mac.draws (c.mac.attempts + 1)) (steps_before answer after start given t) e
 
   at_zero : core_at answer after start given zero ≡ start
   unfolding core_at
@@ -118,19 +118,19 @@ module _ {D : Type 0} (answer : D → ℕ → ℕ) (after : D → D) (start : Co
   unfolding core_at
   at_suc t = refl
 
-  pub counted_at : Counted [] start.mac → (t : ℕ) → Counted (told_before answer after start given t) (core_at answer after start given t).mac
+  pub counted_at : Counted [] start.mac → (t : ℕ) → Counted (steps_before answer after start given t) (core_at answer after start given t).mac
   counted_at begin zero = rw at_zero begin
   counted_at begin (suc t) =
-      rw (at_suc t) (tick_counted t (offers_counted (told_before answer after start given t) (core_at answer after start given t) (given t).offers (counted_at begin t)))
+      rw (at_suc t) (tick_counted t (offers_counted (steps_before answer after start given t) (core_at answer after start given t) (given t).offers (counted_at begin t)))
 
 module _ {D : Type 0} (answer : D → ℕ → ℕ) (after : D → D) (bounded : DrawsAreBounded answer) (start : Core D) (given : ℕ → CoreTick) (end : ℕ)
-    (calm : Undisturbed answer after start given end) (begin : RunAt answer after bounded start given end calm zero) where
+    (calm : IsUndisturbed answer after start given end) (begin : RunAt answer after bounded start given end calm zero) where
   pub jams_once : jams [] ≡ start.mac.attempts + jam_in start.mac.phase → (t : ℕ) → t ≤ end
-      → (jams (told_before answer after start given (suc t)) ≤ 1) × ((number : ℕ) → note_at answer after start given t ≢ Drop number)
+      → (jams (steps_before answer after start given (suc t)) ≤ 1) × ((number : ℕ) → note_at answer after start given t ≢ Drop number)
   jams_once first t within =
       let run = run_at answer after bounded start given end calm begin t (omega arith) in
       let tick = ticks answer after bounded start given end calm t within run in
       let tries = joint_tries tick.step.to _ _ _ _ _ _ _ _ _ tick.step.stands.joint in
-      let count : jams (told_before answer after start given (suc t)) ≡ (left_at answer after start given t).mac.attempts + jam_in (left_at answer after start given t).mac.phase =
+      let count : jams (steps_before answer after start given (suc t)) ≡ (left_at answer after start given t).mac.attempts + jam_in (left_at answer after start given t).mac.phase =
       counted_at answer after start given first (suc t) ∙ ap (λ (c : Core D). c.mac.attempts + jam_in c.mac.phase) (at_suc answer after start given t) in
       (omega (arith, count, tries), λ number. no_drop run.place tick.step.to _ tick.step.popped number tick.step.goes)

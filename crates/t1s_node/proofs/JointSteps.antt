@@ -4,16 +4,16 @@ use Rattle.t1s_symbols.specs.declared.Class.{Class}
 use Rattle.t1s_ring.specs.Queue.{Queue}
 use Rattle.t1s_pcs_tx.specs.declared.TxCmd.TheVariants.{None as NoCmd, Commit as CommitCmd}
 use Rattle.t1s_pcs_tx.specs.State.{Stage, Quiet, TxState, ClosingCloser, is_closed}
-use Rattle.t1s_pcs_tx.specs.Transmit.{TxTurn, transmit_step, report_of}
+use Rattle.t1s_pcs_tx.specs.TransmitTable.{TxTurn, transmit_step, report_of}
 use Rattle.plca_data.specs.declared.data_path.State.{State}
 use Rattle.plca_data.specs.declared.data_path.State.TheVariants.{Silent, Transmit}
 use Rattle.plca_data.specs.DataPathTable.{data_path_step, carrier, collision, ready, begun, ended, bad}
-use Rattle.t1s_mac.specs.Deference.{deference_step, may_start}
+use Rattle.t1s_mac.specs.DeferenceTable.{deference_step, may_start}
 use Rattle.t1s_mac.specs.declared.deference.Deference.{Deference}
 use Rattle.t1s_mac.specs.declared.deference.Deference.TheVariants.{Busy}
-use Rattle.t1s_mac.specs.Mac.{Row, row_of}
+use Rattle.t1s_mac.specs.MacTable.{Row, row_of}
 use Rattle.t1s_mac.specs.State.{Phase, is_sending}
-use Rattle.t1s_node.proofs.Free.{Free, quiet, free_turns, free_not_closed, free_rest}
+use Rattle.t1s_node.proofs.NoPiece.{Free, quiet, free_turns, free_not_closed, free_rest}
 use Rattle.t1s_node.proofs.HoldSteps.{told_in, hold_steps}
 use Rattle.t1s_node.proofs.IdleSteps.{idle_steps, asleep_steps, wake_steps, pause_steps}
 use Rattle.t1s_node.proofs.CollideSteps.{collide_steps, jam_steps, delay_steps, pending_steps}
@@ -21,8 +21,8 @@ use Rattle.t1s_node.proofs.OpenSteps.{open_steps, owning_turns, before_steps}
 use Rattle.t1s_node.proofs.Piece.{piece_turns, piece_not_closed, end_turns, CloserTurn, commit_turns, silent_turns, closer_report}
 use Rattle.t1s_node.proofs.PieceSteps.{fed_steps, given_steps, end_steps, close_steps}
 use Rattle.t1s_node.proofs.MacTurns.{Fit, frame_there, rest_turns, defer_turns, backoff_turns, send_turns, jam_turns, long}
-use Rattle.t1s_node.proofs.Joint.{Place, Asleep, Idles, Apart, away, transmit as transmits, Aligned, even_away, odd_away, even_row, odd_row, row, idles_on, idle_starts, Outcome, Joint, asleep, idles, holds, collides, jams, delays, pends, waits, rests_in, before, fed, given, ends, closes}
-use Rattle.t1s_node.proofs.Turning.{ApartTurn, still, opens, apart_turns, FreeNext, stays_free}
+use Rattle.t1s_node.proofs.JointPlaces.{Place, Asleep, Idles, Apart, away, transmit as transmits, Aligned, even_away, odd_away, even_row, odd_row, row, idles_on, idle_starts, Outcome, Joint, asleep, idles, holds, collides, jams, delays, pends, waits, rests_in, before, fed, given, ends, closes}
+use Rattle.t1s_node.proofs.JointTurns.{ApartTurn, still, opens, apart_turns, FreeNext, stays_free}
 use Rattle.t1s_node.proofs.View.{View, Away, InTransmit, cmd_of, own_of, Turns, stays_transmit, pauses, transmit_ends}
 
 pub always_hit : (c : Bool) → (c || true) ≡ true

@@ -6,13 +6,13 @@ use Rattle.t1s_frame.specs.Frame.{IsFrame, nibble_list}
 use Rattle.t1s_frame.proofs.Nibbles.{length-nibbles_of}
 use Rattle.t1s_ring.specs.Queue.{Queue, without_head}
 use Rattle.t1s_ring.specs.declared.queued.Queued.{Queued}
-use Rattle.t1s_mac.specs.Deference.{deference_step}
+use Rattle.t1s_mac.specs.DeferenceTable.{deference_step}
 use Rattle.t1s_mac.specs.declared.deference.Deference.{Deference}
 use Rattle.t1s_mac.specs.declared.deference.Deference.TheVariants.{Busy}
-use Rattle.t1s_mac.specs.Mac.{Row, row, row_of, deferring, sending, jamming, last_quarter, last_jam_nibble, preamble_nibbles}
+use Rattle.t1s_mac.specs.MacTable.{Row, row, row_of, deferring, sending, jamming, last_quarter, last_jam_nibble, preamble_nibbles}
 use Rattle.t1s_mac.specs.State.{Phase, Resting, Deferring, Waiting, Sending, Jamming, head_nibbles, head_number, nibbles_in, number_in}
 use Rattle.t1s_mac.specs.declared.outcome.MacNote.TheVariants.{None as NoNote, Jam, Sent}
-use Rattle.t1s_mac.proofs.Rows.{if_both}
+use Rattle.std.proofs.lemmas.Bool.{cond_both}
 
 -- the first frame of a queue
 pub record Heads (q : Queue) (f : Queued) : Type 0 where
@@ -72,7 +72,7 @@ start_turn q attempts may _ some (defers_on e) = stays (defers some)
 pub rest_turns : (phase : Phase) (q : Queue) (attempts : ℕ) (may collision : Bool) (drawn : ℕ) → Rests phase q → Fit q.frames
     → StartTurn q attempts may (row_of phase q attempts may collision drawn)
 rest_turns _ q attempts may collision drawn rests fit =
-    if_both (StartTurn q attempts may) (nat_lt 0 (length q.frames)) _ _
+    cond_both (nat_lt 0 (length q.frames)) _ _ (StartTurn q attempts may)
     (λ e. let some : 0 < length q.frames = grind (arith, nat_tests, e) in start_turn q attempts may _ some (defer_turns q attempts may some fit))
     (λ _. stays rests)
 rest_turns _ q attempts may collision drawn (defers some) fit = start_turn q attempts may _ some (defer_turns q attempts may some fit)
@@ -94,7 +94,7 @@ pub backoff_turns : (n : ℕ) (phase : Phase) (q : Queue) (attempts : ℕ) (coll
     → BackoffTurn n q attempts (row_of phase q attempts false collision drawn)
 backoff_turns n _ q attempts collision drawn (over some) = backs_off (over some) (λ _. refl)
 backoff_turns n _ q attempts collision drawn (waits {w = w} left some) =
-    if_both (BackoffTurn n q attempts) (w == 0) _ _
+    cond_both (w == 0) _ _ (BackoffTurn n q attempts)
     (λ _. backs_off (over some) (λ _. refl))
     (λ more. backs_off (waits (grind (arith, nat_tests, more, left)) some) (λ none. absurd (grind (arith, nat_tests, more, left, none))))
 
@@ -139,12 +139,12 @@ send_turns q f k p attempts hit heads quarter within =
     let e = heads.nibbles in
     let n = heads.number in
     let many = (long f heads.frame).0 in
-    if_both (SendTurn q f k p attempts hit) (nat_lt p last_quarter) _ _
+    cond_both (nat_lt p last_quarter) _ _ (SendTurn q f k p attempts hit)
     (λ less. lasts (grind (arith, nat_tests, less)))
     (λ last. let three : p ≡ 3 = grind (arith, nat_tests, last, quarter) in
-    if_both (SendTurn q f k p attempts hit) (hit && nat_le preamble_nibbles (k + 1)) _ _
+    cond_both (hit && nat_le preamble_nibbles (k + 1)) _ _ (SendTurn q f k p attempts hit)
     (λ both. rw n (jams three (hits_late hit k both).1 (hits_late hit k both).0))
-    (λ not_both. if_both (SendTurn q f k p attempts hit) (k + 1 == length (head_nibbles q)) _ _
+    (λ not_both. cond_both (k + 1 == length (head_nibbles q)) _ _ (SendTurn q f k p attempts hit)
     (λ same.
     let all : k + 1 ≡ count_of f = is_same (k + 1) (length (head_nibbles q)) same ∙ ap length e in
     rw n (sends three all (no_hit hit k not_both (omega (arith, many, all)))))
@@ -160,9 +160,9 @@ pub data JamTurn (q : Queue) (j p drawn : ℕ) : Row → Type 0 where
 
 pub jam_turns : (q : Queue) (j p drawn : ℕ) → p ≤ 3 → j ≤ 7 → JamTurn q j p drawn (jamming j p q 0 drawn)
 jam_turns q j p drawn quarter nibble =
-    if_both (JamTurn q j p drawn) (nat_lt p last_quarter) _ _
+    cond_both (nat_lt p last_quarter) _ _ (JamTurn q j p drawn)
     (λ less. jam_lasts (grind (arith, nat_tests, less)))
-    (λ last. if_both (JamTurn q j p drawn) (nat_lt j last_jam_nibble) _ _
+    (λ last. cond_both (nat_lt j last_jam_nibble) _ _ (JamTurn q j p drawn)
     (λ less. jam_goes (grind (arith, nat_tests, last, quarter)) (grind (arith, nat_tests, less)))
     (λ seven. jam_ends (grind (arith, nat_tests, last, quarter)) (grind (arith, nat_tests, seven, nibble))))
 

@@ -11,19 +11,19 @@ use Rattle.plca_data.specs.declared.MacOut.TheVariants.{Nothing, Nibble}
 use Rattle.plca_data.specs.declared.data_path.State.{State}
 use Rattle.plca_data.specs.declared.data_path.State.TheVariants.{Transmit, WaitMac}
 use Rattle.plca_data.specs.DataPathTable.{wait_mac, transmit}
-use Rattle.t1s_mac.specs.Deference.{deference_step, may_start}
+use Rattle.t1s_mac.specs.DeferenceTable.{deference_step, may_start}
 use Rattle.t1s_mac.specs.declared.deference.Deference.{Deference}
 use Rattle.t1s_mac.specs.declared.deference.Deference.TheVariants.{Busy, Gap}
 use Rattle.t1s_mac.specs.declared.outcome.MacNote.TheVariants.{None as NoNote}
-use Rattle.t1s_mac.specs.Mac.{Row, row}
+use Rattle.t1s_mac.specs.MacTable.{Row, row}
 use Rattle.t1s_mac.specs.State.{Deferring}
-use Rattle.t1s_node.proofs.Feeds.{Feeds, one_given, one_popped, popped_is, not_full}
-use Rattle.t1s_node.proofs.Free.{Free, FreeTurn, goes_on, begins_commit, begins_piece}
+use Rattle.t1s_node.proofs.LineFeed.{Feeds, one_given, one_popped, popped_is, not_full}
+use Rattle.t1s_node.proofs.NoPiece.{Free, FreeTurn, goes_on, begins_commit, begins_piece}
 use Rattle.t1s_node.proofs.HoldSteps.{told_in}
 use Rattle.t1s_node.proofs.IdleSteps.{first_in}
 use Rattle.t1s_node.proofs.MacTurns.{first_same, Heads, DeferTurn, begins, defers_on, SendTurn, lasts, jams, gives, sends, giving, starting as starts_row, started_busy, long}
-use Rattle.t1s_node.proofs.Joint.{Goes, Opens, Before, InPiece, Opening, opens, gap, opens_on, open_starts, before_on, before_pops, Owning, commit, transmit as transmits, Outcome, waits, before, fed, starting, nibble_of}
-use Rattle.t1s_node.proofs.Turning.{FreeNext, frees}
+use Rattle.t1s_node.proofs.JointPlaces.{Goes, Opens, Before, InPiece, Opening, opens, gap, opens_on, open_starts, before_on, before_pops, Owning, commit, transmit as transmits, Outcome, waits, before, fed, starting, nibble_of}
+use Rattle.t1s_node.proofs.JointTurns.{FreeNext, frees}
 use Rattle.t1s_node.proofs.View.{View, InCommit, InTransmit, own_of, Turns, commit_sends, commit_waits, commit_ends, stays_transmit, pauses, transmit_ends, pause_sends, pause_waits, pause_ends}
 
 -- what a step with a nibble leaves in Transmit, where the line has room
@@ -88,8 +88,8 @@ owning_turns ready closed _ _ e own (stays_transmit h) = refl
 owning_turns ready closed _ _ e own (pauses h) = absurd (cc)
 owning_turns ready closed _ _ e own (transmit_ends h) = absurd (cc)
 owning_turns ready closed _ _ e own (pause_sends h) = refl
-owning_turns ready closed _ _ e own (pause_waits h) = absurd (cc)
-owning_turns ready closed _ _ e own (pause_ends h) = absurd (cc)
+owning_turns ready closed _ _ e own (pause_waits h less some) = absurd (cc)
+owning_turns ready closed _ _ e own (pause_ends h less) = absurd (cc)
 owning_turns ready closed _ _ e own _ = elim own [ ]
 
 module _ (crs : Bool) (class : Class) (f : Queued) (k p r a : ℕ) (q : Queue) (heads : Heads q f) (tries : a ≤ 1) (quarter : p ≤ 3) (near : 4 * k + p + r ≤ 90) where

@@ -5,9 +5,9 @@ use Rattle.t1s_pcs_tx.specs.declared.TxCmd.{TxCmd}
 use Rattle.t1s_pcs_tx.specs.declared.TxCmd.TheVariants.{None as NoCmd, Commit as CommitCmd}
 use Rattle.t1s_pcs_tx.specs.declared.TxReport.TheVariants.{Framing, Closed}
 use Rattle.t1s_pcs_tx.specs.State.{Stage, Quiet, Committing, Starting, ClosingEnd, ClosingCloser, is_closed}
-use Rattle.t1s_pcs_tx.specs.Transmit.{TxTurn, Choice, transmit_step, report_of, chosen_turn, choice, data_choice, last_part}
-use Rattle.t1s_node.proofs.Joint.{PieceTx, starting, sending}
-use Rattle.t1s_mac.proofs.Rows.{if_both}
+use Rattle.t1s_pcs_tx.specs.TransmitTable.{TxTurn, Choice, transmit_step, report_of, chosen_turn, choice, data_choice, last_part}
+use Rattle.t1s_node.proofs.JointPlaces.{PieceTx, starting, sending}
+use Rattle.std.proofs.lemmas.Bool.{cond_both}
 
 -- its symbol goes on; or the next nibble is popped; or the line is empty, and T begins
 pub data PieceTurn (i s : ℕ) (good : Bool) (line : List ℕ) : Stage → ℕ → List ℕ → Type 0 where
@@ -36,17 +36,17 @@ pub piece_turns : (i s : ℕ) (stage : Stage) (past : List Bool) (cmd : TxCmd) (
     → Turned i s (ended && not bad) line (transmit_step (record { stage = stage; part = s; past = past }) (record { cmd = cmd; ended = ended; bad = bad }) line)
 unfolding transmit_step
 piece_turns i s _ past cmd ended bad line (starting early low) some =
-    if_both (Turned i s (ended && not bad) line) (s == last_part) _ _
+    cond_both (s == last_part) _ _ (Turned i s (ended && not bad) line)
     (λ e.
     let end : s ≡ 3 = grind (arith, nat_tests, e) in
-    if_both (λ next. Turned i s (ended && not bad) line (chosen_turn next)) (nat_lt i 3) _ _
+    cond_both (nat_lt i 3) _ _ (λ next. Turned i s (ended && not bad) line (chosen_turn next))
     (λ less. let lt : i < 3 = grind (arith, nat_tests, less) in takes_first i s (ended && not bad) past line lt end (some end lt))
     (λ more. takes_data i s past cmd ended bad line (grind (arith, nat_tests, more)) end))
     (λ e.
     let less : s < 3 = grind (arith, nat_tests, e, low) in
     symbol_on less (starting early (omega (arith, less))))
 piece_turns i s _ past cmd ended bad line (sending late low) some =
-    if_both (Turned i s (ended && not bad) line) (s == last_part) _ _
+    cond_both (s == last_part) _ _ (Turned i s (ended && not bad) line)
     (λ e. takes_data i s past cmd ended bad line (omega (arith, late)) (grind (arith, nat_tests, e)))
     (λ e.
     let less : s < 3 = grind (arith, nat_tests, e, low) in
@@ -62,7 +62,7 @@ pub end_turns : (s : ℕ) (past : List Bool) (cmd : TxCmd) (ended : Bool) (line 
     (transmit_step (record { stage = ClosingEnd true; part = s; past = past }) (record { cmd = cmd; ended = ended; bad = false }) line)
 unfolding transmit_step
 end_turns s past cmd ended line low =
-    if_both (λ (turn : TxTurn). CloseTurn s line (ClosingEnd true) (ClosingCloser true) turn.state.stage turn.state.part turn.line) (s == last_part) _ _
+    cond_both (s == last_part) _ _ (λ (turn : TxTurn). CloseTurn s line (ClosingEnd true) (ClosingCloser true) turn.state.stage turn.state.part turn.line)
     (λ e. part_ends (grind (arith, nat_tests, e)))
     (λ e. part_on (grind (arith, nat_tests, e, low)))
 
@@ -77,7 +77,7 @@ pub commit_turns : (s : ℕ) (past : List Bool) (ended bad : Bool) → s ≤ 3
     (transmit_step (record { stage = ClosingCloser true; part = s; past = past }) (record { cmd = CommitCmd; ended = ended; bad = bad }) [])
 unfolding transmit_step
 commit_turns s past ended bad low =
-    if_both (λ (turn : TxTurn). CloserTurn s CommitCmd turn.state.stage turn.state.part turn.line) (s == last_part) _ _
+    cond_both (s == last_part) _ _ (λ (turn : TxTurn). CloserTurn s CommitCmd turn.state.stage turn.state.part turn.line)
     (λ e. commits_on (grind (arith, nat_tests, e)))
     (λ e. closer_on (grind (arith, nat_tests, e, low)))
 
@@ -86,7 +86,7 @@ pub silent_turns : (s : ℕ) (past : List Bool) (ended bad : Bool) → s ≤ 3
     (transmit_step (record { stage = ClosingCloser true; part = s; past = past }) (record { cmd = NoCmd; ended = ended; bad = bad }) [])
 unfolding transmit_step
 silent_turns s past ended bad low =
-    if_both (λ (turn : TxTurn). CloserTurn s NoCmd turn.state.stage turn.state.part turn.line) (s == last_part) _ _
+    cond_both (s == last_part) _ _ (λ (turn : TxTurn). CloserTurn s NoCmd turn.state.stage turn.state.part turn.line)
     (λ e. falls_silent (grind (arith, nat_tests, e)))
     (λ e. closer_on (grind (arith, nat_tests, e, low)))
 

@@ -9,17 +9,17 @@ use Rattle.t1s_pcs_tx.specs.State.{Stage, Committing, ClosingEnd, ClosingCloser}
 use Rattle.plca_data.specs.declared.MacOut.TheVariants.{Nothing}
 use Rattle.plca_data.specs.declared.data_path.State.{State}
 use Rattle.plca_data.specs.DataPathTable.{transmit}
-use Rattle.t1s_mac.specs.Deference.{deference_step}
+use Rattle.t1s_mac.specs.DeferenceTable.{deference_step}
 use Rattle.t1s_mac.specs.declared.deference.Deference.TheVariants.{Busy}
 use Rattle.t1s_mac.specs.declared.outcome.MacNote.TheVariants.{None as NoNote}
-use Rattle.t1s_mac.specs.Mac.{Row, row}
-use Rattle.t1s_node.proofs.Feeds.{Feeds, one_given, one_popped, popped_is}
-use Rattle.t1s_node.proofs.Free.{quiet, commits}
+use Rattle.t1s_mac.specs.MacTable.{Row, row}
+use Rattle.t1s_node.proofs.LineFeed.{Feeds, one_given, one_popped, popped_is}
+use Rattle.t1s_node.proofs.NoPiece.{quiet, commits}
 use Rattle.t1s_node.proofs.HoldSteps.{told_in}
 use Rattle.t1s_node.proofs.OpenSteps.{nibble_kept}
 use Rattle.t1s_node.proofs.MacTurns.{Heads, rests, StartTurn, starts, stays, SendTurn, lasts, jams, gives, sends, giving, count_of, long}
 use Rattle.t1s_node.proofs.Piece.{PieceTurn, symbol_on, takes_nibble, takes_none, CloseTurn, part_on, part_ends, CloserTurn, closer_on, commits_on, falls_silent}
-use Rattle.t1s_node.proofs.Joint.{Idles, Pauses, InPiece, Ends, Closes, PieceTx, as_before, now_sent, piece_lasts, piece_pops, piece_ends, ends_on, end_closes, closes_on, close_pauses, close_rests, away, transmit as transmits, Outcome, idles, rests_in, fed, given, ends, closes, nibble_of}
+use Rattle.t1s_node.proofs.JointPlaces.{Idles, Pauses, InPiece, Ends, Closes, PieceTx, as_before, now_sent, piece_lasts, piece_pops, piece_ends, ends_on, end_closes, closes_on, close_pauses, close_rests, away, transmit as transmits, Outcome, idles, rests_in, fed, given, ends, closes, nibble_of}
 use Rattle.t1s_node.proofs.View.{View, InTransmit, InPause, cmd_of, own_of, Turns, stays_transmit, pauses, transmit_ends}
 
 -- while the MAC gives the frame, d ticks ahead of the piece

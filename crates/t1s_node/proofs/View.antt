@@ -12,7 +12,8 @@ use Rattle.plca_control.specs.Runs.{is_transmit}
 use Rattle.t1s_pcs_tx.specs.State.{is_closed}
 use Rattle.plca_control.specs.ControlTable.{reach, control_row, control_start, is_own, is_active, is_closed_good, is_beacon}
 use Rattle.t1s_node.specs.Laws.{is_commit}
-use Rattle.t1s_mac.proofs.Rows.{if_both}
+use Rattle.std.specs.Cmp.{second_so}
+use Rattle.std.proofs.lemmas.Bool.{cond_both}
 
 -- neither a beacon nor the own opportunity; a beacon, and how many of its ticks follow; the own opportunity, before its
 -- frame, within it, and after a frame of a burst
@@ -58,13 +59,14 @@ pub data Turns (ready begun closed : Bool) : View → View → Type 0 where
   pauses : closed ≡ true → Turns ready begun closed InTransmit (InPause 128)
   transmit_ends : closed ≡ true → Turns ready begun closed InTransmit Away
   pause_sends : {n : ℕ} → begun ≡ true → Turns ready begun closed (InPause n) InTransmit
-  pause_waits : {n m : ℕ} → begun ≡ false → Turns ready begun closed (InPause n) (InPause m)
-  pause_ends : {n : ℕ} → begun ≡ false → Turns ready begun closed (InPause n) Away
+  pause_waits : {n m : ℕ} → begun ≡ false → n ≡ m + 1 → 1 ≤ m → Turns ready begun closed (InPause n) (InPause m)
+  pause_ends : {n : ℕ} → begun ≡ false → n ≤ 1 → Turns ready begun closed (InPause n) Away
 
 -- each count in a state that is left runs from its start down to 1
 abbrev pub counts : State → Bool
 counts (Beacon n) = nat_le 1 n
 counts (Commit n b) = nat_le 1 n
+counts (Burst n b) = nat_le 1 n
 counts _ = true
 
 pub start_counts : (s : ControlSet) → IsTrue (counts (control_start s).state)
@@ -96,49 +98,46 @@ module _ (s : ControlSet) (i : ControlIn) where
   abbrev TurnsTo : View → State × TxCmd → Type 0
   TurnsTo v next = Turns i.ready i.begun (is_closed i.tx) v (view_of next.0)
 
-  both_true : (a b : Bool) → (a && b) ≡ true → b ≡ true
-  both_true true b e = e
-  both_true false b e = absurd (cc)
-
   reach_turns : (c : ℕ) → TurnsTo Away (reach s i.ready c)
   reach_turns c =
-      if_both (TurnsTo Away) ((s.id == 0) && nat_le s.count c) _ _ (λ _. row_begins)
-      (λ _. if_both (TurnsTo Away) ((c == s.id) && i.ready) _ _ (λ e. own_begins (both_true (c == s.id) i.ready e))
-      (λ _. if_both (TurnsTo Away) (nat_lt 0 s.id && nat_le 255 c) _ _ (λ _. stays_away) (λ _. stays_away)))
+      cond_both ((s.id == 0) && nat_le s.count c) _ _ (TurnsTo Away) (λ _. row_begins)
+      (λ _. cond_both ((c == s.id) && i.ready) _ _ (TurnsTo Away) (λ e. own_begins (second_so (c == s.id) i.ready e))
+      (λ _. cond_both (nat_lt 0 s.id && nat_le 255 c) _ _ (TurnsTo Away) (λ _. stays_away) (λ _. stays_away)))
 
   pub row_turns : (st : State) → IsTrue (counts st) → Turns i.ready i.begun (is_closed i.tx) (view_of st) (view_of (control_row s st i).0)
   row_turns Disabled h = stays_away
   row_turns (Recover q) h =
-      if_both (TurnsTo Away) i.crs _ _ (λ _. stays_away) (λ _. if_both (TurnsTo Away) (q == 258 * s.to) _ _ (λ _. row_begins) (λ _. stays_away))
-  row_turns Resync h = if_both (TurnsTo Away) i.crs _ _ (λ _. stays_away) (λ _. stays_away)
+      cond_both i.crs _ _ (TurnsTo Away) (λ _. stays_away) (λ _. cond_both (q == 258 * s.to) _ _ (TurnsTo Away) (λ _. row_begins) (λ _. stays_away))
+  row_turns Resync h = cond_both i.crs _ _ (TurnsTo Away) (λ _. stays_away) (λ _. stays_away)
   row_turns Early h =
-      if_both (TurnsTo Away) i.crs _ _ (λ _. stays_away)
-      (λ _. if_both (TurnsTo Away) (is_beacon i.class) _ _ (λ _. reach_turns 0) (λ _. stays_away))
+      cond_both i.crs _ _ (TurnsTo Away) (λ _. stays_away)
+      (λ _. cond_both (is_beacon i.class) _ _ (TurnsTo Away) (λ _. reach_turns 0) (λ _. stays_away))
   row_turns (Beacon n) h =
-      if_both (TurnsTo (InRow (n - 1))) (n == 1) _ _ (λ one. row_ends (grind (arith, nat_tests, one)))
+      cond_both (n == 1) _ _ (TurnsTo (InRow (n - 1))) (λ one. row_ends (grind (arith, nat_tests, one)))
       (λ more. row_goes (grind (arith, nat_tests, more, h)))
-  row_turns Syncing h = if_both (TurnsTo Away) i.crs _ _ (λ _. stays_away) (λ _. reach_turns 0)
+  row_turns Syncing h = cond_both i.crs _ _ (TurnsTo Away) (λ _. stays_away) (λ _. reach_turns 0)
   row_turns (WaitTo c n) h =
-      if_both (TurnsTo Away) i.crs _ _ (λ _. stays_away)
-      (λ _. if_both (TurnsTo Away) (n == 1) _ _ (λ _. reach_turns (c + 1)) (λ _. stays_away))
+      cond_both i.crs _ _ (TurnsTo Away) (λ _. stays_away)
+      (λ _. cond_both (n == 1) _ _ (TurnsTo Away) (λ _. reach_turns (c + 1)) (λ _. stays_away))
   row_turns (Receive c) h =
-      if_both (TurnsTo Away) i.crs _ _ (λ _. stays_away)
-      (λ _. if_both (TurnsTo Away) (is_beacon i.class && nat_lt 0 s.id) _ _ (λ _. reach_turns 0)
-      (λ _. if_both (TurnsTo Away) (is_beacon i.class && (s.id == 0)) _ _ (λ _. stays_away) (λ _. reach_turns (c + 1))))
+      cond_both i.crs _ _ (TurnsTo Away) (λ _. stays_away)
+      (λ _. cond_both (is_beacon i.class && nat_lt 0 s.id) _ _ (TurnsTo Away) (λ _. reach_turns 0)
+      (λ _. cond_both (is_beacon i.class && (s.id == 0)) _ _ (TurnsTo Away) (λ _. stays_away) (λ _. reach_turns (c + 1))))
   row_turns (Commit n b) h =
-      if_both (TurnsTo (InCommit n)) i.begun _ _ (λ e. commit_sends e)
-      (λ e. if_both (TurnsTo (InCommit n)) (n == 1) _ _ (λ one. commit_ends e (grind (arith, nat_tests, one)))
+      cond_both i.begun _ _ (TurnsTo (InCommit n)) (λ e. commit_sends e)
+      (λ e. cond_both (n == 1) _ _ (TurnsTo (InCommit n)) (λ one. commit_ends e (grind (arith, nat_tests, one)))
       (λ more. commit_waits e (grind (arith, nat_tests, more, h))))
   row_turns (Transmit b) h =
-      if_both (TurnsTo InTransmit) (is_closed_good i.tx && nat_lt 0 b) _ _ (λ e. pauses (good_closes i.tx b e))
-      (λ _. if_both (TurnsTo InTransmit) (is_closed i.tx) _ _ (λ e. transmit_ends e) (λ e. stays_transmit e))
+      cond_both (is_closed_good i.tx && nat_lt 0 b) _ _ (TurnsTo InTransmit) (λ e. pauses (good_closes i.tx b e))
+      (λ _. cond_both (is_closed i.tx) _ _ (TurnsTo InTransmit) (λ e. transmit_ends e) (λ e. stays_transmit e))
     where
       good_closes : (r : TxReport) (b : ℕ) → (is_closed_good r && nat_lt 0 b) ≡ true → is_closed r ≡ true
       good_closes _ b e = search rules
   row_turns (Burst n b) h =
-      if_both (TurnsTo (InPause n)) i.begun _ _ (λ e. pause_sends e)
-      (λ e. if_both (TurnsTo (InPause n)) (n == 1) _ _ (λ _. pause_ends e) (λ _. pause_waits e))
-  row_turns Drain h = if_both (TurnsTo Away) i.crs _ _ (λ _. stays_away) (λ _. reach_turns (s.id + 1))
+      cond_both i.begun _ _ (TurnsTo (InPause n)) (λ e. pause_sends e)
+      (λ e. cond_both (n == 1) _ _ (TurnsTo (InPause n)) (λ one. pause_ends e (grind (arith, nat_tests, one)))
+      (λ more. pause_waits e (grind (arith, nat_tests, more, h)) (grind (arith, nat_tests, more, h))))
+  row_turns Drain h = cond_both i.crs _ _ (TurnsTo Away) (λ _. stays_away) (λ _. reach_turns (s.id + 1))
 
 -- control in Commit, by its view
 pub commit_view : (st : State) → is_commit st ≡ true → (n : ℕ) × (view_of st ≡ InCommit n)

@@ -7,7 +7,7 @@ use Rattle.t1s_ring.specs.Queue.{Queue}
 use Rattle.t1s_ring.specs.declared.queued.Queued.{Queued}
 use Rattle.t1s_pcs_tx.specs.declared.TxCmd.{TxCmd}
 use Rattle.t1s_pcs_tx.specs.State.{TxState, tx_start, first_h_begins, is_closed}
-use Rattle.t1s_pcs_tx.specs.Transmit.{TxTurn, transmit_step, report_of}
+use Rattle.t1s_pcs_tx.specs.TransmitTable.{TxTurn, transmit_step, report_of}
 use Rattle.plca_control.specs.declared.ControlSet.{ControlSet}
 use Rattle.plca_control.specs.declared.ControlIn.{ControlIn}
 use Rattle.plca_control.specs.declared.ControlOut.{ControlOut}
@@ -16,9 +16,9 @@ use Rattle.plca_control.specs.ControlTable.{control_start, control_step}
 use Rattle.plca_data.specs.declared.DataIn.{DataIn}
 use Rattle.plca_data.specs.declared.data_path.State.{State}
 use Rattle.plca_data.specs.DataPathTable.{data_path_start, data_path_step, carrier, collision, ready, begun, ended, bad}
-use Rattle.t1s_mac.specs.Laws.{offered}
+use Rattle.t1s_mac.specs.Laws.{mac_after_offer}
 use Rattle.t1s_mac.specs.State.{MacState, mac_start, number_of}
-use Rattle.t1s_mac.specs.Mac.{mac_step}
+use Rattle.t1s_mac.specs.MacTable.{mac_step}
 use Rattle.t1s_mac.specs.declared.outcome.MacStep.{MacStep}
 
 -- control, the MAC, the transmitter, the data path, and the nibbles of the delay line, the oldest first
@@ -38,7 +38,7 @@ pub record LineReading : Type 0 where
 
 -- what a drive phase comes to: the core that it leaves, what control gives out, what the MAC tells, the quarter that
 -- is driven, and the number of the frame that the MAC gives where a first H begins in this tick
-pub record CoreDriven (D : Type 0) : Type 0 where
+pub record CoreDrive (D : Type 0) : Type 0 where
   pub core : Core D
   pub cmd : TxCmd
   pub active : Bool
@@ -54,8 +54,8 @@ module _ {D : Type 0} where
       record { control = control_start set; mac = mac_start queue draws; tx = tx_start; path = data_path_start; line = [] }
 
   -- the core after an offer, which a full queue does not take
-  abbrev pub core_offered : Core D → Queued → Core D
-  core_offered c q = record c { mac = offered c.mac q }
+  abbrev pub core_after_offer : Core D → Queued → Core D
+  core_after_offer c q = record c { mac = mac_after_offer c.mac q }
 
   -- what control is told: all of it as the last tick left it
   abbrev pub control_in : LineReading → Core D → ControlIn
@@ -90,7 +90,7 @@ module _ {D : Type 0} where
 
   -- the drive phase of a tick; `answer` is the number that draws would answer for an attempt, and `after` what stands
   -- after one draw
-  unfoldable pub core_drive : (D → ℕ → ℕ) → (D → D) → LineReading → Core D → CoreDriven D
+  unfoldable pub core_drive : (D → ℕ → ℕ) → (D → D) → LineReading → Core D → CoreDrive D
   core_drive answer after s c =
       let control : ControlState × ControlOut = control_turn s c in
       let mac : MacState D × MacStep = mac_turn answer after s c in

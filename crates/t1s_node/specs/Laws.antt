@@ -15,7 +15,7 @@ use Rattle.t1s_mac.specs.Laws.{jams}
 use Rattle.t1s_mac.specs.State.{Deferring}
 use Rattle.t1s_mac.specs.declared.outcome.MacNote.TheVariants.{Drop, Sent}
 use Rattle.t1s_node.specs.Core.{Core, core_start}
-use Rattle.t1s_node.specs.Runs.{CoreTick, Undisturbed, found_at, left_at, active_at, own_at, note_at, leaves_at, carrier_at, starts_at, popped_at, told_before}
+use Rattle.t1s_node.specs.Runs.{CoreTick, IsUndisturbed, found_at, left_at, active_at, own_at, note_at, leaves_at, carrier_at, starts_at, popped_at, steps_before}
 
 -- control is in Commit
 abbrev pub is_commit : ControlStage → Bool
@@ -33,7 +33,7 @@ module _ {D : Type 0} (answer : D → ℕ → ℕ) (after : D → D) where
   StartsOnlyAwake =
       (set : ControlSet) (room : ℕ) (draws : D) (given : ℕ → CoreTick) (end : ℕ)
       → let start : Core D = core_start set (empty_queue room) draws in
-      Undisturbed answer after start given end
+      IsUndisturbed answer after start given end
       → (t : ℕ) → t ≤ end → starts_at answer after start given t ≡ true
       → (u : ℕ) × (u < t) × (active_at answer after start given u ≡ true)
 
@@ -51,9 +51,9 @@ module _ {D : Type 0} (answer : D → ℕ → ℕ) (after : D → D) where
   JamsOnce =
       (set : ControlSet) (room : ℕ) (draws : D) (given : ℕ → CoreTick) (end : ℕ)
       → let start : Core D = core_start set (empty_queue room) draws in
-      Undisturbed answer after start given end
+      IsUndisturbed answer after start given end
       → (t : ℕ) → t ≤ end
-      → (jams (told_before answer after start given (t + 1)) ≤ 1)
+      → (jams (steps_before answer after start given (t + 1)) ≤ 1)
       × ((number : ℕ) → note_at answer after start given t ≢ Drop number)
 
   -- The first H of a frame begins, which is the first in the MAC's queue then.
@@ -71,7 +71,7 @@ module _ {D : Type 0} (answer : D → ℕ → ℕ) (after : D → D) where
   LeavesOrPends =
       (set : ControlSet) (room : ℕ) (draws : D) (given : ℕ → CoreTick) (end : ℕ)
       → let start : Core D = core_start set (empty_queue room) draws in
-      Undisturbed answer after start given end
+      IsUndisturbed answer after start given end
       → (t : ℕ) → t + 1000 ≤ end → starts_at answer after start given t ≡ true
       → (f : Queued) × (slice_get (left_at answer after start given t).mac.queue.frames 0 ≡ Some f)
       × (k : ℕ) × (1 ≤ k) × (k ≤ 1000)
@@ -89,7 +89,7 @@ module _ {D : Type 0} (answer : D → ℕ → ℕ) (after : D → D) where
   PendsUntilOwn =
       (set : ControlSet) (room : ℕ) (draws : D) (given : ℕ → CoreTick) (end : ℕ)
       → let start : Core D = core_start set (empty_queue room) draws in
-      Undisturbed answer after start given end
+      IsUndisturbed answer after start given end
       → (f : Queued) (t : ℕ) → t < end → PendsAt start given f t
       → (own_at answer after start given (t + 1) ≡ false → PendsAt start given f (t + 1))
       × (own_at answer after start given (t + 1) ≡ true → CommitsFor start given f (t + 1))
@@ -99,7 +99,7 @@ module _ {D : Type 0} (answer : D → ℕ → ℕ) (after : D → D) where
   CommitsBriefly =
       (set : ControlSet) (room : ℕ) (draws : D) (given : ℕ → CoreTick) (end : ℕ)
       → let start : Core D = core_start set (empty_queue room) draws in
-      Undisturbed answer after start given end
+      IsUndisturbed answer after start given end
       → (t : ℕ) → t + 98 ≤ end
       → is_commit (found_at answer after start given t).control.state ≡ false
       → is_commit (left_at answer after start given t).control.state ≡ true
@@ -110,7 +110,7 @@ module _ {D : Type 0} (answer : D → ℕ → ℕ) (after : D → D) where
   LeavesOnceCommitted =
       (set : ControlSet) (room : ℕ) (draws : D) (given : ℕ → CoreTick) (end : ℕ)
       → let start : Core D = core_start set (empty_queue room) draws in
-      Undisturbed answer after start given end
+      IsUndisturbed answer after start given end
       → (t : ℕ) → t + 112 ≤ end
       → is_commit (found_at answer after start given t).control.state ≡ false
       → is_commit (left_at answer after start given t).control.state ≡ true
@@ -141,7 +141,7 @@ module _ {D : Type 0} (answer : D → ℕ → ℕ) (after : D → D) where
   SendsWholePiece =
       (set : ControlSet) (room : ℕ) (draws : D) (given : ℕ → CoreTick) (end : ℕ)
       → let start : Core D = core_start set (empty_queue room) draws in
-      Undisturbed answer after start given end
+      IsUndisturbed answer after start given end
       → (t number : ℕ) → t ≤ end → leaves_at answer after start given t ≡ Some number
       → (f : Queued) × (first : ℕ) × (slice_get (left_at answer after start given t).mac.queue.frames 0 ≡ Some f) × (f.number ≡ number)
       × (first + 8 ≡ t) × IsPieceOf start given end f first
@@ -151,7 +151,7 @@ module _ {D : Type 0} (answer : D → ℕ → ℕ) (after : D → D) where
   SentInPiece =
       (set : ControlSet) (room : ℕ) (draws : D) (given : ℕ → CoreTick) (end : ℕ)
       → let start : Core D = core_start set (empty_queue room) draws in
-      Undisturbed answer after start given end
+      IsUndisturbed answer after start given end
       → (t number : ℕ) → t ≤ end → note_at answer after start given t ≡ Sent number
       → (f : Queued) × (first : ℕ) × (slice_get (found_at answer after start given t).mac.queue.frames 0 ≡ Some f) × (f.number ≡ number)
       × (first + 8 < t) × (t < first + 4 * length (nibble_list f.frame)) × IsPieceOf start given end f first

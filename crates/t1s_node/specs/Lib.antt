@@ -1,4 +1,4 @@
-pub mod Carrier
+pub mod CarrierTable
 pub mod Leaves
 pub mod Node
 pub mod Core

@@ -10,15 +10,15 @@ use Rattle.t1s_pcs_rx.specs.Receive.{receive_step}
 use Rattle.plca_control.specs.Ranges.{IsControlSet}
 use Rattle.plca_control.specs.declared.StatusState.{StatusState}
 use Rattle.plca_control.specs.StatusTable.{status_start, status_step, status_is_ok}
-use Rattle.t1s_mac.specs.Picked.{picked_answer, picked_after}
+use Rattle.t1s_mac.specs.PickedDraws.{picked_answer, picked_after}
 use Rattle.t1s_mac.specs.State.{MacState, mac_start}
-use Rattle.t1s_mac.specs.declared.picked.PickedDraws.{PickedDraws}
-use Rattle.t1s_mac.specs.declared.picked.PickedDraws.TheVariants.{List as Listed}
+use Rattle.t1s_mac.specs.declared.picked_draws.PickedDraws.{PickedDraws}
+use Rattle.t1s_mac.specs.declared.picked_draws.PickedDraws.TheVariants.{List as Listed}
 use Rattle.t1s_node.specs.declared.carrier.Carrier.{Carrier}
 use Rattle.t1s_node.specs.declared.settings.NodeSet.{NodeSet}
 use Rattle.t1s_node.specs.declared.settings.Driven.{Driven}
-use Rattle.t1s_node.specs.Carrier.{carrier_start, carrier_step}
-use Rattle.t1s_node.specs.Core.{Core, CoreDriven, LineReading, core_start, core_offered, core_drive}
+use Rattle.t1s_node.specs.CarrierTable.{carrier_start, carrier_step}
+use Rattle.t1s_node.specs.Core.{Core, CoreDrive, LineReading, core_start, core_after_offer, core_drive}
 
 -- after how many ticks carrier is read and no longer read, the parts that drive, the status, the carrier reading, the
 -- receiver, whether the node drove and heard another signal in the last tick, and whether it drove in it
@@ -62,17 +62,17 @@ node_start set queue draws = record {
 }
 
 -- the node after an offer, which a full queue does not take
-abbrev pub node_offered : NodeState → Queued → NodeState
-node_offered n q = record n { core = core_offered n.core q }
+abbrev pub node_after_offer : NodeState → Queued → NodeState
+node_after_offer n q = record n { core = core_after_offer n.core q }
 
 -- ---- the drive phase
 
 -- what the drive phase finds, as the last tick left it
-abbrev pub node_sensed : NodeState → LineReading
-node_sensed n = record { crs = n.carrier.on; class = n.receiver.class; hit = n.hit }
+abbrev pub reading_of : NodeState → LineReading
+reading_of n = record { crs = n.carrier.on; class = n.receiver.class; hit = n.hit }
 
 -- the node after its drive phase, and what it tells of it
-abbrev pub node_after : NodeState → CoreDriven PickedDraws → NodeState × Driven
+abbrev pub node_after : NodeState → CoreDrive PickedDraws → NodeState × Driven
 node_after n d =
     let status : StatusState = status_step n.status d.active in (
       record n { core = d.core; status = status; drove = is_some d.quarter },
@@ -80,7 +80,7 @@ node_after n d =
     )
 
 abbrev pub node_drive : NodeState → NodeState × Driven
-node_drive n = node_after n (core_drive picked_answer picked_after (node_sensed n) n.core)
+node_drive n = node_after n (core_drive picked_answer picked_after (reading_of n) n.core)
 
 -- ---- the hear phase
 

@@ -1,6 +1,6 @@
 //! The carrier reading of a node.
 ghost use Rattle.std.specs.Prelude.{◌≡◌};
-ghost use Rattle.t1s_node.specs.Carrier.{carrier_start, carrier_step};
+ghost use Rattle.t1s_node.specs.CarrierTable.{carrier_start, carrier_step};
 
 /// Whether a node reads carrier, and how far it is from reading otherwise.
 #[derive(Clone, Copy, Debug, PartialEq, Eq)]

@@ -1,7 +1,7 @@
 //! Laws of the core of one node, in every run of it from its start: what it is told and offered is free, as long as its
 //! drive meets no other signal and control, once it takes part in the cycle, goes on to do so. Each function is empty: its
 //! contract is the law.
-ghost use Rattle.t1s_mac.specs.Picked.{picked_answer};
+ghost use Rattle.t1s_mac.specs.PickedDraws.{picked_answer};
 ghost use Rattle.t1s_node.specs.Runs.{DrawsAreBounded};
 ghost use Rattle.t1s_node.specs.Laws.{StartsOnlyAwake, DefersBriefly, JamsOnce, LeavesOrPends, PendsUntilOwn, CommitsBriefly, LeavesOnceCommitted, SendsWholePiece, SentInPiece};
 ghost use Rattle.t1s_node.specs.NodeRuns.{RunsAsCore};

@@ -4,18 +4,20 @@ ghost use Rattle.std.specs.Borrow.{sem};
 ghost use Rattle.t1s_symbols.specs.Ranges.{IsHeard, IsQuarter};
 ghost use Rattle.t1s_pcs_rx.specs.Leaves.{event_shown};
 ghost use Rattle.t1s_pcs_rx.specs.Receive.{receive_event};
-ghost use Rattle.t1s_pcs_tx.specs.Transmit.{transmit_step};
+ghost use Rattle.t1s_pcs_tx.specs.State.{is_closed};
+ghost use Rattle.t1s_pcs_tx.specs.TransmitTable.{transmit_step};
 ghost use Rattle.plca_data.specs.Ranges.{IsMacOut};
-ghost use Rattle.t1s_mac.specs.Mac.{mac_step};
-ghost use Rattle.t1s_mac.specs.Picked.{picked_answer, picked_after};
+ghost use Rattle.t1s_mac.specs.MacTable.{mac_step};
+ghost use Rattle.t1s_mac.specs.PickedDraws.{picked_answer, picked_after};
 ghost use Rattle.t1s_mac.specs.State.{number_of};
-ghost use Rattle.t1s_node.specs.Node.{IsNodeSet, mac_in, node_start, node_offered, node_drive, node_sense, is_clash};
+ghost use Rattle.t1s_node.specs.Core.{control_in};
+ghost use Rattle.t1s_node.specs.Node.{IsNodeSet, reading_of, mac_in, node_start, node_after_offer, node_drive, node_sense, is_clash};
 ghost use Rattle.t1s_node.specs.Leaves.{LeavesNode};
 
 use crate::carrier::Carrier;
 use crate::{Driven, NodeHeard, NodeSet};
-use plca_control::{Control, ControlIn, Status};
-use plca_data::{DataIn, DataPath};
+use plca_control::{Control, ControlIn, ControlOut, Status};
+use plca_data::{DataIn, DataPath, MacOut};
 use std::marker::Model;
 use t1s_mac::{Mac, MacStep, PickedDraws};
 use t1s_pcs_rx::PcsRx;
@@ -86,6 +88,21 @@ fn step_tx(tx: &mut PcsTx, inp: TxIn, line: &mut DelayLine) -> Option<Quarter>
     quarter
 }
 
+/// What the data path is told: what control and the MAC give out in this tick, and the rest as the last tick left it.
+fn data_in(found: ControlIn, given: ControlOut, hit: bool, mac: MacOut) -> DataIn
+    ensures { result ≡ record { active = given.active; own = given.own; closed = is_closed found.tx; crs = found.crs; class = found.class; hit = hit; mac = mac } }
+{
+    DataIn {
+        active: given.active,
+        own: given.own,
+        closed: matches!(found.tx, TxReport::Closed { good: _ }),
+        crs: found.crs,
+        class: found.class,
+        hit,
+        mac,
+    }
+}
+
 impl Node {
     /// A node over a ring of frames and a delay line, both empty, with the draws of its backoffs. It takes no memory.
     pub fn new(set: NodeSet, ring: FrameRing, line: DelayLine, draws: PickedDraws) -> Node
@@ -115,12 +132,25 @@ impl Node {
     pub fn offer(&mut self, q: Queued) -> Result<(), Queued>
         ensures taken { IsOk result ↔ (length self.old.core.mac.queue.frames < self.old.core.mac.queue.room) }
         ensures full { IsErr result ↔ (length self.old.core.mac.queue.frames ≡ self.old.core.mac.queue.room) }
-        ensures node { self.new ≡ node_offered self.old q }
+        ensures node { self.new ≡ node_after_offer self.old q }
         ensures err { IfErr result (λ back. (back ≡ q) × (self.new ≡ self.old)) }
     {
         match &mut self.mac {
             Some(mac) => mac.offer(q),
             None => unreachable!(),
+        }
+    }
+
+    /// What control is told in a drive phase: all of it as the last tick left it.
+    fn control_in(&self) -> ControlIn
+        ensures { result ≡ control_in (reading_of self.now) self.now.core }
+    {
+        ControlIn {
+            crs: self.carrier.on,
+            class: self.receiver.class(),
+            ready: self.path.ready(),
+            begun: self.path.begun(),
+            tx: self.tx.report(),
         }
     }
 
@@ -131,34 +161,19 @@ impl Node {
         ensures node { (self.new, result) ≡ node_drive self.old }
         ensures quarter { IfSome result.quarter IsQuarter }
     {
-        let crs = self.carrier.on;
-        let class = self.receiver.class();
-        let report = self.tx.report();
-        let (control, given) = self.control.step(ControlIn {
-            crs,
-            class,
-            ready: self.path.ready(),
-            begun: self.path.begun(),
-            tx: report,
-        });
+        let found = self.control_in();
+        let (control, given) = self.control.step(found);
         self.control = control;
         self.status = self.status.step(given.active);
-        let (told, number) = step_mac(&mut self.mac, self.path.carrier(crs), self.path.collision());
+        let carrier = self.path.carrier(found.crs);
+        let (told, number) = step_mac(&mut self.mac, carrier, self.path.collision());
         let tx_in = TxIn {
             cmd: given.cmd,
             ended: self.path.ended(),
             bad: self.path.bad(),
         };
         let quarter = step_tx(&mut self.tx, tx_in, &mut self.line);
-        let data_in = DataIn {
-            active: given.active,
-            own: given.own,
-            closed: matches!(report, TxReport::Closed { good: _ }),
-            crs,
-            class,
-            hit: self.hit,
-            mac: told.out,
-        };
+        let data_in = data_in(found, given, self.hit, told.out);
         self.path = self.path.step(data_in, &mut self.line);
         let leaves = if self.tx.begins_first_h() {
             number

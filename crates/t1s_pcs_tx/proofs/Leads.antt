@@ -9,8 +9,8 @@ use Rattle.t1s_symbols.specs.declared.Symbol.{Symbol}
 use Rattle.t1s_symbols.specs.declared.Symbol.TheVariants.{Nibble, J, K, T, R, H, N, S}
 use Rattle.t1s_pcs_tx.specs.declared.TxIn.{TxIn}
 use Rattle.t1s_pcs_tx.specs.State.{Stage, Quiet, TxState, symbol_of, quarter_in}
-use Rattle.t1s_pcs_tx.specs.Transmit.{TxTurn, Choice, choice_after, transmit_step, at_boundary, is_quiet}
-use Rattle.t1s_pcs_tx.specs.Runs.{Tick, turn, after, driven, quarters, all_quarters, lead_with, lead_from, lead_of}
+use Rattle.t1s_pcs_tx.specs.TransmitTable.{TxTurn, Choice, choice_after, transmit_step, at_boundary, is_quiet}
+use Rattle.t1s_pcs_tx.specs.Runs.{Tick, turn, after, driven_ticks, quarters, all_quarters, lead_with, lead_from, lead_of}
 use Rattle.t1s_pcs_tx.proofs.Pieces.{at, quarter-next, at-boundary}
 
 abbrev Driven : Type 0
@@ -201,19 +201,19 @@ row-tick ticks stage part past inp line within row = elim (quiet-or stage) [
 
 row-along : (more : List Tick) (ticks : Driven) (stage : Stage) (part : ℕ) (past : List Bool)
     → IsPart (at stage part past) → RowAt ticks (at stage part past)
-    → RowAt (ticks ++ driven (at stage part past) more) (after (at stage part past) more)
+    → RowAt (ticks ++ driven_ticks (at stage part past) more) (after (at stage part past) more)
 row-along [] ticks stage part past within row =
     subst (λ xs. RowAt xs (at stage part past)) (sym (append-nil ticks)) row
 row-along (tick ∷ more) ticks stage part past within row =
     let left : TxTurn = turn (at stage part past) tick in
     let here = row-tick ticks stage part past tick.inp tick.line within row in
     subst (λ xs. RowAt xs (after left.state more))
-    (append_assoc ticks (left.driven ∷ []) (driven left.state more))
+    (append_assoc ticks (left.driven ∷ []) (driven_ticks left.state more))
     (row-along more (ticks ++ left.driven ∷ []) left.state.stage left.state.part left.state.past here.1 here.0)
 
 -- a run from one symbol boundary to another ends with its row of J
 pub row-of-run : (s : TxState) (ticks : List Tick) → IsTrue (at_boundary s) → IsTrue (at_boundary (after s ticks))
-    → Row (driven s ticks) []
+    → Row (driven_ticks s ticks) []
 row-of-run s ticks boundary end =
     let within : IsPart s = elim (ended s.stage s.part s.past boundary) [
       | inl quiet ↦ inl quiet
@@ -225,11 +225,11 @@ row-of-run s ticks boundary end =
           subst (Row []) (sym (ap (begun_in (symbol_of s.stage)) third ∙ begun-none (symbol_of s.stage))) no-row
     ] in
     let last : TxState = after s ticks in
-    row-ended (driven s ticks) last.stage last.part last.past end
+    row-ended (driven_ticks s ticks) last.stage last.part last.past end
     (row-along ticks [] s.stage s.part s.past within start)
 
-pub driven-append : (s : TxState) (before ticks : List Tick)
-    → driven s (before ++ ticks) ≡ driven s before ++ driven (after s before) ticks
-driven-append s [] ticks = refl
-driven-append s (tick ∷ before) ticks =
-    ap (λ xs. (turn s tick).driven ∷ xs) (driven-append (turn s tick).state before ticks)
+pub driven_ticks-append : (s : TxState) (before ticks : List Tick)
+    → driven_ticks s (before ++ ticks) ≡ driven_ticks s before ++ driven_ticks (after s before) ticks
+driven_ticks-append s [] ticks = refl
+driven_ticks-append s (tick ∷ before) ticks =
+    ap (λ xs. (turn s tick).driven ∷ xs) (driven_ticks-append (turn s tick).state before ticks)

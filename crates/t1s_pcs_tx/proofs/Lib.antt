@@ -1,3 +1,3 @@
 pub mod Pieces
 pub mod Leads
-pub mod Spelled
+pub mod PieceWithLead

@@ -13,8 +13,8 @@ use Rattle.t1s_pcs_tx.specs.declared.TxCmd.TheVariants.{None as NoCmd, Beacon, C
 use Rattle.t1s_pcs_tx.specs.declared.TxIn.{TxIn}
 use Rattle.t1s_pcs_tx.specs.declared.TxReport.TheVariants.{Framing, Closed}
 use Rattle.t1s_pcs_tx.specs.State.{Stage, Quiet, Beaconing, Committing, Starting, Sending, ClosingEnd, ClosingCloser, TxState, symbol_of, quarter_in, is_closed}
-use Rattle.t1s_pcs_tx.specs.Transmit.{TxTurn, Choice, choice, data_choice, told_choice, choice_after, chosen_turn, turn_to, transmit_step, report_of, at_boundary, is_quiet}
-use Rattle.t1s_pcs_tx.specs.Runs.{Tick, turn, after, driven, popped, lost, all_quarters}
+use Rattle.t1s_pcs_tx.specs.TransmitTable.{TxTurn, Choice, choice, data_choice, command_choice, choice_after, chosen_turn, turn_to, transmit_step, report_of, at_boundary, is_quiet}
+use Rattle.t1s_pcs_tx.specs.Runs.{Tick, turn, after, driven_ticks, popped_nibbles, lost_nibbles, all_quarters}
 use Rattle.t1s_pcs_tx.specs.Laws.{ClosesLast, IsFed, takes_nibble, IsPieceRun, spelled_piece}
 use Rattle.t1s_grammar.specs.Burst.{piece_symbols}
 
@@ -26,11 +26,11 @@ at stage part past = record { stage = stage; part = part; past = past }
 take-none : (n m : ℕ) (xs : List ℕ) → n ≡ m → take (n - m) xs ≡ []
 take-none n m xs e = let none : n - m ≡ 0 = omega arith in ap (λ k. take k xs) none
 
-pub lost-none : (line : List ℕ) → lost line line ≡ []
-lost-none line = take-none (length line) (length line) line refl
+pub lost_nibbles-none : (line : List ℕ) → lost_nibbles line line ≡ []
+lost_nibbles-none line = take-none (length line) (length line) line refl
 
-pub lost-one : (x : ℕ) (rest : List ℕ) → lost (x ∷ rest) rest ≡ x ∷ []
-lost-one x rest = let one : length (x ∷ rest) - length rest ≡ 1 = omega arith in ap (λ k. take k (x ∷ rest)) one
+pub lost_nibbles-one : (x : ℕ) (rest : List ℕ) → lost_nibbles (x ∷ rest) rest ≡ x ∷ []
+lost_nibbles-one x rest = let one : length (x ∷ rest) - length rest ≡ 1 = omega arith in ap (λ k. take k (x ∷ rest)) one
 
 -- ---- what is still to be driven
 
@@ -95,8 +95,8 @@ data_symbols-nil past good = ap (λ ns. map Nibble ns ++ T ∷ sent_closer good 
 
 -- what a tick leaves is in step with what was to be driven
 record InStep (s : TxState) (left : TxTurn) (line nibbles : List ℕ) (good : Bool) : Type 0 where
-  pub driven : left.driven ∷ expected left.state nibbles good ≡ expected s (lost line left.line ++ nibbles) good
-  pub fits : Fits s.stage (lost line left.line ++ nibbles) good
+  pub driven : left.driven ∷ expected left.state nibbles good ≡ expected s (lost_nibbles line left.line ++ nibbles) good
+  pub fits : Fits s.stage (lost_nibbles line left.line ++ nibbles) good
 
 -- a quarter within a symbol
 pub quarter-next : (stage : Stage) (part : ℕ) (past : List Bool) (inp : TxIn) (line : List ℕ)
@@ -111,16 +111,16 @@ mid-left : (stage : Stage) (part : ℕ) (past : List Bool) (line nibbles : List 
     → InStep (at stage part past)
     (record { state = at stage (part + 1) past; driven = quarter_in (symbol_of stage) (part + 1); line = line }) line nibbles good
 mid-left stage zero past line nibbles good before fits = record {
-  driven = ap (λ xs. remaining (symbol_of stage) 0 ++ all_quarters (rest_symbols stage past (xs ++ nibbles) good)) (sym (lost-none line));
-  fits = subst (λ xs. Fits stage (xs ++ nibbles) good) (sym (lost-none line)) fits;
+  driven = ap (λ xs. remaining (symbol_of stage) 0 ++ all_quarters (rest_symbols stage past (xs ++ nibbles) good)) (sym (lost_nibbles-none line));
+  fits = subst (λ xs. Fits stage (xs ++ nibbles) good) (sym (lost_nibbles-none line)) fits;
 }
 mid-left stage (suc zero) past line nibbles good before fits = record {
-  driven = ap (λ xs. remaining (symbol_of stage) 1 ++ all_quarters (rest_symbols stage past (xs ++ nibbles) good)) (sym (lost-none line));
-  fits = subst (λ xs. Fits stage (xs ++ nibbles) good) (sym (lost-none line)) fits;
+  driven = ap (λ xs. remaining (symbol_of stage) 1 ++ all_quarters (rest_symbols stage past (xs ++ nibbles) good)) (sym (lost_nibbles-none line));
+  fits = subst (λ xs. Fits stage (xs ++ nibbles) good) (sym (lost_nibbles-none line)) fits;
 }
 mid-left stage (suc (suc zero)) past line nibbles good before fits = record {
-  driven = ap (λ xs. remaining (symbol_of stage) 2 ++ all_quarters (rest_symbols stage past (xs ++ nibbles) good)) (sym (lost-none line));
-  fits = subst (λ xs. Fits stage (xs ++ nibbles) good) (sym (lost-none line)) fits;
+  driven = ap (λ xs. remaining (symbol_of stage) 2 ++ all_quarters (rest_symbols stage past (xs ++ nibbles) good)) (sym (lost_nibbles-none line));
+  fits = subst (λ xs. Fits stage (xs ++ nibbles) good) (sym (lost_nibbles-none line)) fits;
 }
 mid-left stage (suc (suc (suc part))) past line nibbles good before fits = absurd (omega arith)
 
@@ -148,16 +148,16 @@ mid stage part past inp line nibbles good quiet before within fed fits =
 -- among the nibbles
 data-cons : (stage : Stage) (past : List Bool) (x : ℕ) (rest nibbles : List ℕ) (good : Bool)
     → all_quarters (Nibble (scrambled_nibble past x) ∷ data_symbols (scrambler_after past (x ∷ [])) nibbles good)
-    ≡ all_quarters (data_symbols past (lost (x ∷ rest) rest ++ nibbles) good)
+    ≡ all_quarters (data_symbols past (lost_nibbles (x ∷ rest) rest ++ nibbles) good)
 data-cons stage past x rest nibbles good =
     ap all_quarters (sym (data_symbols-cons past x nibbles good))
-    ∙ ap (λ xs. all_quarters (data_symbols past (xs ++ nibbles) good)) (sym (lost-one x rest))
+    ∙ ap (λ xs. all_quarters (data_symbols past (xs ++ nibbles) good)) (sym (lost_nibbles-one x rest))
 
 data-nil : (past : List Bool) (nibbles : List ℕ) (good : Bool) → nibbles ≡ []
-    → all_quarters (T ∷ sent_closer good ∷ []) ≡ all_quarters (data_symbols past (lost [] [] ++ nibbles) good)
+    → all_quarters (T ∷ sent_closer good ∷ []) ≡ all_quarters (data_symbols past (lost_nibbles [] [] ++ nibbles) good)
 data-nil past nibbles good none =
     ap all_quarters (sym (data_symbols-nil past good))
-    ∙ ap (λ xs. all_quarters (data_symbols past xs good)) (sym (ap (λ xs. xs ++ nibbles) (lost-none []) ∙ none))
+    ∙ ap (λ xs. all_quarters (data_symbols past xs good)) (sym (ap (λ xs. xs ++ nibbles) (lost_nibbles-none []) ∙ none))
 
 -- at the end of a symbol
 last : (stage : Stage) (past : List Bool) (inp : TxIn) (line nibbles : List ℕ) (good : Bool)
@@ -168,17 +168,17 @@ last Beaconing past inp line nibbles good within fed fits = absurd within
 last Committing past inp line nibbles good within fed fits = absurd within
 last (Starting zero) past inp [] nibbles good within fed fits = absurd (let e = fed refl refl in cc)
 last (Starting zero) past inp (x ∷ rest) nibbles good within fed fits = record {
-  driven = ap (λ xs. all_quarters (J ∷ H ∷ H ∷ data_symbols past (drop 3 (xs ++ nibbles)) good)) (sym (lost-one x rest));
+  driven = ap (λ xs. all_quarters (J ∷ H ∷ H ∷ data_symbols past (drop 3 (xs ++ nibbles)) good)) (sym (lost_nibbles-one x rest));
   fits = tt;
 }
 last (Starting (suc zero)) past inp [] nibbles good within fed fits = absurd (let e = fed refl refl in cc)
 last (Starting (suc zero)) past inp (x ∷ rest) nibbles good within fed fits = record {
-  driven = ap (λ xs. all_quarters (H ∷ H ∷ data_symbols past (drop 2 (xs ++ nibbles)) good)) (sym (lost-one x rest));
+  driven = ap (λ xs. all_quarters (H ∷ H ∷ data_symbols past (drop 2 (xs ++ nibbles)) good)) (sym (lost_nibbles-one x rest));
   fits = tt;
 }
 last (Starting (suc (suc zero))) past inp [] nibbles good within fed fits = absurd (let e = fed refl refl in cc)
 last (Starting (suc (suc zero))) past inp (x ∷ rest) nibbles good within fed fits = record {
-  driven = ap (λ xs. all_quarters (H ∷ data_symbols past (drop 1 (xs ++ nibbles)) good)) (sym (lost-one x rest));
+  driven = ap (λ xs. all_quarters (H ∷ data_symbols past (drop 1 (xs ++ nibbles)) good)) (sym (lost_nibbles-one x rest));
   fits = tt;
 }
 last (Starting (suc (suc (suc zero)))) past inp [] nibbles good within fed fits =
@@ -192,7 +192,7 @@ last (Sending nibble) past inp (x ∷ rest) nibbles good within fed fits =
     record { driven = data-cons (Sending nibble) past x rest nibbles good; fits = tt }
 last (ClosingEnd so_far) past inp line nibbles good within fed fits = record {
   driven = ap (λ closed. all_quarters (sent_closer closed ∷ [])) fits.1;
-  fits = ap (λ xs. xs ++ nibbles) (lost-none line) ∙ fits.0;
+  fits = ap (λ xs. xs ++ nibbles) (lost_nibbles-none line) ∙ fits.0;
 }
 last (ClosingCloser closed) past inp line nibbles good within fed fits = absurd (omega (arith, within))
 
@@ -302,8 +302,8 @@ has-closed (ClosingCloser closed) part past good e =
     }
 
 record PieceRun (s : TxState) (ticks : List Tick) (good : Bool) : Type 0 where
-  pub driven : driven s ticks ≡ expected s (popped s ticks) good
-  pub fits : Fits s.stage (popped s ticks) good
+  pub driven : driven_ticks s ticks ≡ expected s (popped_nibbles s ticks) good
+  pub fits : Fits s.stage (popped_nibbles s ticks) good
 
 piece_run : (ticks : List Tick) (stage : Stage) (part : ℕ) (past : List Bool) (good : Bool) → IsOpen stage part
     → IsFed (at stage part past) ticks → ClosesLast (at stage part past) ticks good
@@ -318,7 +318,7 @@ piece_run (tick ∷ next ∷ ticks) stage part past good within fed closes =
     let left : TxTurn = turn (at stage part past) tick in
     let still = open-next stage part past tick.inp tick.line within closes.0 in
     let more = piece_run (next ∷ ticks) left.state.stage left.state.part left.state.past good still fed.1 closes.1 in
-    let here = one-tick stage part past tick.inp tick.line (popped left.state (next ∷ ticks)) good within fed.0 more.fits in
+    let here = one-tick stage part past tick.inp tick.line (popped_nibbles left.state (next ∷ ticks)) good within fed.0 more.fits in
     record { driven = ap (λ xs. left.driven ∷ xs) more.driven ∙ here.driven; fits = here.fits }
 
 -- ---- the first tick of a piece
@@ -331,8 +331,8 @@ record Begins (past : List Bool) (line : List ℕ) (left : TxTurn) : Type 0 wher
       left
       ≡ record { state = at (Starting 0) 0 past; driven = Some (record { sym = J; part = 0 }); line = rest }
 
-told-begins : (cmd : TxCmd) (past : List Bool) (line : List ℕ) → (told_choice cmd past line).stage ≡ Starting 0
-    → Begins past line (chosen_turn (told_choice cmd past line))
+told-begins : (cmd : TxCmd) (past : List Bool) (line : List ℕ) → (command_choice cmd past line).stage ≡ Starting 0
+    → Begins past line (chosen_turn (command_choice cmd past line))
 told-begins NoCmd past line e = cc
 told-begins Beacon past line e = cc
 told-begins Commit past [] e = cc
@@ -379,25 +379,25 @@ begins s inp line boundary e =
 -- ---- the piece
 
 -- what is driven over the ticks of a piece, with the two J that are its own
-pub piece-driven : (s : TxState) (ticks : List Tick) (good : Bool) → IsPieceRun s ticks good
-    → driven s ticks ≡ all_quarters (piece_symbols (spelled_piece 2 s.past (popped s ticks) good))
-piece-driven s [] good run = absurd run.closes
-piece-driven s (tick ∷ []) good run =
+pub driven_ticks-piece : (s : TxState) (ticks : List Tick) (good : Bool) → IsPieceRun s ticks good
+    → driven_ticks s ticks ≡ all_quarters (piece_symbols (spelled_piece 2 s.past (popped_nibbles s ticks) good))
+driven_ticks-piece s [] good run = absurd run.closes
+driven_ticks-piece s (tick ∷ []) good run =
     let first = begins s tick.inp tick.line run.boundary run.begins in
     let e : Framing ≡ Closed good = sym (ap (λ (left : TxTurn). report_of left.state) first.left_is) ∙ run.closes in
     cc
-piece-driven s (tick ∷ next ∷ ticks) good run =
+driven_ticks-piece s (tick ∷ next ∷ ticks) good run =
     let first = begins s tick.inp tick.line run.boundary run.begins in
     let s' : TxState = at (Starting 0) 0 s.past in
     let e : (turn s tick).state ≡ s' = ap (λ (left : TxTurn). left.state) first.left_is in
     let fed : IsFed s' (next ∷ ticks) = subst (λ u. IsFed u (next ∷ ticks)) e run.fed.1 in
     let closes : ClosesLast s' (next ∷ ticks) good = subst (λ u. ClosesLast u (next ∷ ticks) good) e run.closes.1 in
     let more = piece_run (next ∷ ticks) (Starting 0) 0 s.past good (omega arith, omega arith) fed closes in
-    let later : List ℕ = popped s' (next ∷ ticks) in
-    let all : popped s (tick ∷ next ∷ ticks) ≡ first.x ∷ later
-    = ap (λ (left : TxTurn). lost tick.line left.line ++ popped left.state (next ∷ ticks)) first.left_is
-    ∙ ap (λ line. lost line first.rest ++ later) first.line_is
-    ∙ ap (λ xs. xs ++ later) (lost-one first.x first.rest) in
-    ap (λ (left : TxTurn). left.driven ∷ driven left.state (next ∷ ticks)) first.left_is
+    let later : List ℕ = popped_nibbles s' (next ∷ ticks) in
+    let all : popped_nibbles s (tick ∷ next ∷ ticks) ≡ first.x ∷ later
+    = ap (λ (left : TxTurn). lost_nibbles tick.line left.line ++ popped_nibbles left.state (next ∷ ticks)) first.left_is
+    ∙ ap (λ line. lost_nibbles line first.rest ++ later) first.line_is
+    ∙ ap (λ xs. xs ++ later) (lost_nibbles-one first.x first.rest) in
+    ap (λ (left : TxTurn). left.driven ∷ driven_ticks left.state (next ∷ ticks)) first.left_is
     ∙ ap (λ xs. Some (record { sym = J; part = 0 }) ∷ xs) more.driven
     ∙ ap (λ xs. all_quarters (piece_symbols (spelled_piece 2 s.past xs good))) (sym all)

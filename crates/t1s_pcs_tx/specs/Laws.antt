@@ -9,8 +9,8 @@ use Rattle.t1s_grammar.specs.Sent.{sent_closer, sent_piece}
 use Rattle.t1s_grammar.specs.Laws.{IsRead}
 use Rattle.t1s_pcs_tx.specs.declared.TxReport.TheVariants.{Closed}
 use Rattle.t1s_pcs_tx.specs.State.{Stage, Quiet, Beaconing, Committing, Starting, Sending, ClosingEnd, ClosingCloser, TxState, symbol_of, is_closed}
-use Rattle.t1s_pcs_tx.specs.Transmit.{at_boundary, report_of}
-use Rattle.t1s_pcs_tx.specs.Runs.{Tick, turn, after, driven, popped, all_quarters, lead_of}
+use Rattle.t1s_pcs_tx.specs.TransmitTable.{at_boundary, report_of}
+use Rattle.t1s_pcs_tx.specs.Runs.{Tick, turn, after, driven_ticks, popped_nibbles, all_quarters, lead_of}
 
 -- a closer ends in the last of these ticks, with that report, and none ends before
 abbrev pub ClosesLast : TxState → List Tick → Bool → Type 0
@@ -43,9 +43,9 @@ pub record IsPieceRun (s : TxState) (ticks : List Tick) (good : Bool) : Type 0 w
   pub closes : ClosesLast s ticks good
   pub fed : IsFed s ticks
 
--- how many J lead a piece that begins behind these ticks: those that ended in a row before it, and two of its own
-abbrev pub lead_behind : TxState → List Tick → ℕ
-lead_behind s before = lead_of (driven s before) + 2
+-- how many J lead a piece that begins after these ticks: those that ended in a row before it, and two of its own
+abbrev pub lead_after : TxState → List Tick → ℕ
+lead_after s before = lead_of (driven_ticks s before) + 2
 
 -- the piece of popped nibbles: the first four are not among those that it carries
 abbrev pub spelled_piece : ℕ → List Bool → List ℕ → Bool → Piece
@@ -68,8 +68,8 @@ abbrev pub SpellsWhatItPops : Type 0
 SpellsWhatItPops =
     (s : TxState) (before ticks : List Tick) (good : Bool)
     → IsTrue (at_boundary s) → IsPieceRun (after s before) ticks good
-    → EndsWithPiece (driven s (before ++ ticks))
-    (spelled_piece (lead_behind s before) (after s before).past (popped (after s before) ticks) good)
+    → EndsWithPiece (driven_ticks s (before ++ ticks))
+    (spelled_piece (lead_after s before) (after s before).past (popped_nibbles (after s before) ticks) good)
 
 -- Where the popped nibbles are those of a frame, and the lead is one that a piece may have, this piece is a piece of
 -- the grammar and a burst by itself; where it is good, it stands for the frame whatever was heard before it.
@@ -77,6 +77,6 @@ abbrev pub SendsFrames : Type 0
 SendsFrames =
     (s : TxState) (before ticks : List Tick) (good : Bool) (octets : List ℕ) (heard : List Bool)
     → IsTrue (at_boundary s) → IsPieceRun (after s before) ticks good
-    → IsFrame octets → popped (after s before) ticks ≡ nibble_list octets → lead_behind s before ≤ 4096
-    → EndsWithPiece (driven s (before ++ ticks)) (sent_piece (lead_behind s before) (after s before).past octets good)
-    × IsRead (lead_behind s before) (after s before).past heard octets good
+    → IsFrame octets → popped_nibbles (after s before) ticks ≡ nibble_list octets → lead_after s before ≤ 4096
+    → EndsWithPiece (driven_ticks s (before ++ ticks)) (sent_piece (lead_after s before) (after s before).past octets good)
+    × IsRead (lead_after s before) (after s before).past heard octets good

@@ -1,4 +1,4 @@
 pub mod State
-pub mod Transmit
+pub mod TransmitTable
 pub mod Runs
 pub mod Laws

@@ -6,7 +6,7 @@ use Rattle.t1s_symbols.specs.declared.Symbol.{Symbol}
 use Rattle.t1s_symbols.specs.declared.Symbol.TheVariants.{Nibble, J, K, T, R, H, N, S}
 use Rattle.t1s_pcs_tx.specs.declared.TxIn.{TxIn}
 use Rattle.t1s_pcs_tx.specs.State.{TxState}
-use Rattle.t1s_pcs_tx.specs.Transmit.{TxTurn, transmit_step, last_part}
+use Rattle.t1s_pcs_tx.specs.TransmitTable.{TxTurn, transmit_step, last_part}
 
 -- a tick: what is told in it, and the delay line as it is found then, whatever was pushed to it or cleared since
 pub record Tick : Type 0 where
@@ -22,18 +22,18 @@ after s [] = s
 after s (tick ∷ ticks) = after (turn s tick).state ticks
 
 -- what is driven in them, tick by tick
-abbrev pub driven : TxState → List Tick → List (Option Quarter)
-driven s [] = []
-driven s (tick ∷ ticks) = (turn s tick).driven ∷ driven (turn s tick).state ticks
+abbrev pub driven_ticks : TxState → List Tick → List (Option Quarter)
+driven_ticks s [] = []
+driven_ticks s (tick ∷ ticks) = (turn s tick).driven ∷ driven_ticks (turn s tick).state ticks
 
--- what a line has lost at its front
-abbrev pub lost : List ℕ → List ℕ → List ℕ
-lost before left = take (length before - length left) before
+-- the nibbles that a line has lost at its beginning
+abbrev pub lost_nibbles : List ℕ → List ℕ → List ℕ
+lost_nibbles before left = take (length before - length left) before
 
 -- the nibbles that are popped in them
-abbrev pub popped : TxState → List Tick → List ℕ
-popped s [] = []
-popped s (tick ∷ ticks) = lost tick.line (turn s tick).line ++ popped (turn s tick).state ticks
+abbrev pub popped_nibbles : TxState → List Tick → List ℕ
+popped_nibbles s [] = []
+popped_nibbles s (tick ∷ ticks) = lost_nibbles tick.line (turn s tick).line ++ popped_nibbles (turn s tick).state ticks
 
 -- symbols on the line, each in its four quarters
 abbrev pub quarters : Symbol → List (Option Quarter)

@@ -1,7 +1,7 @@
 //! The transmitter of a node: it spells what PLCA control tells it, and what the delay line holds, as symbols.
 //!
 //! The layer above steps a `PcsTx` once a tick and drives the quarter that it answers: `PcsTx::step` is the
-//! transmit table on plain data (`transmit_step` in `specs/Transmit.antt`), over the state of
+//! transmit table on plain data (`transmit_step` in `specs/TransmitTable.antt`), over the state of
 //! `specs/State.antt`. It tells a `TxIn` and reads a `TxReport`. That a piece is
 //! spelled of what is popped for it is a law, in the module `laws`, over the runs of `specs/Runs.antt`.
 #![tactic(auto)]

@@ -2,7 +2,7 @@
 ghost use Rattle.std.specs.Prelude.{◌≡◌, ◌<◌, IsTrue, IfSome, Bool, List};
 ghost use Rattle.t1s_symbols.specs.Ranges.{IsSymbol};
 ghost use Rattle.t1s_pcs_tx.specs.State.{Starting as Begun, stage_of, closing_stage, symbol_of, is_first_h, stage_in_range, report_by};
-ghost use Rattle.t1s_pcs_tx.specs.Transmit.{choice, choice_after, data_choice, told_choice, is_quiet};
+ghost use Rattle.t1s_pcs_tx.specs.TransmitTable.{choice, choice_after, data_choice, command_choice, is_quiet};
 
 use crate::{TxCmd, TxIn, TxReport};
 use t1s_ring::DelayLine;
@@ -61,8 +61,8 @@ pub enum State {
 
 /// What is driven next where no piece is open, by what is told: a piece begins where the line holds a nibble,
 /// which it takes.
-fn told(cmd: TxCmd, line: &mut DelayLine) -> State
-    ensures row { (past : List Bool) → choice (stage_of result) past line.new ≡ told_choice cmd past line.old }
+fn command_state(cmd: TxCmd, line: &mut DelayLine) -> State
+    ensures row { (past : List Bool) → choice (stage_of result) past line.new ≡ command_choice cmd past line.old }
     ensures range { IsTrue (stage_in_range (stage_of result)) }
 {
     match cmd {
@@ -76,7 +76,7 @@ fn told(cmd: TxCmd, line: &mut DelayLine) -> State
 }
 
 /// What is driven next among the nibbles of a piece: the next one, or T where the line is empty.
-fn sent(inp: TxIn, line: &mut DelayLine, scrambler: &mut Scrambler) -> State
+fn data_state(inp: TxIn, line: &mut DelayLine, scrambler: &mut Scrambler) -> State
     ensures row { choice (stage_of result) scrambler.new line.new ≡ data_choice scrambler.old inp line.old }
     ensures range { IsTrue (stage_in_range (stage_of result)) }
 {
@@ -103,7 +103,7 @@ impl Starting {
                 place: self.place + 1,
             });
         }
-        sent(inp, line, scrambler)
+        data_state(inp, line, scrambler)
     }
 }
 
@@ -117,7 +117,7 @@ impl Closing {
             Closing::End { good } => State::Closing(Closing::Closer {
                 good: good && !inp.bad,
             }),
-            Closing::Closer { .. } => told(inp.cmd, line),
+            Closing::Closer { .. } => command_state(inp.cmd, line),
         }
     }
 }
@@ -144,9 +144,11 @@ impl State {
         ensures range { IsTrue (stage_in_range (stage_of result)) }
     {
         match self {
-            State::Quiet(_) | State::Beaconing(_) | State::Committing(_) => told(inp.cmd, line),
+            State::Quiet(_) | State::Beaconing(_) | State::Committing(_) => command_state(
+                inp.cmd, line,
+            ),
             State::Starting(starting) => starting.step(inp, line, scrambler),
-            State::Sending(_) => sent(inp, line, scrambler),
+            State::Sending(_) => data_state(inp, line, scrambler),
             State::Closing(closing) => closing.step(inp, line),
         }
     }

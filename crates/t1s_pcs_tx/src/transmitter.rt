@@ -2,7 +2,7 @@
 ghost use Rattle.std.specs.Prelude.{◌≡◌, IsTrue, IfSome};
 ghost use Rattle.t1s_symbols.specs.Ranges.{IsQuarter};
 ghost use Rattle.t1s_pcs_tx.specs.State.{tx_start, IsTxState, quarter_of, first_h_begins};
-ghost use Rattle.t1s_pcs_tx.specs.Transmit.{transmit_step, report_of};
+ghost use Rattle.t1s_pcs_tx.specs.TransmitTable.{transmit_step, report_of};
 
 use crate::states::{Quiet, State};
 use crate::{TxIn, TxReport};
@@ -73,7 +73,7 @@ impl PcsTx {
 
     /// One tick: the quarter that is driven in it. The next quarter of the symbol goes out while it has one left; at a
     /// symbol boundary the next symbol is chosen, which may take a nibble from the delay line.
-    #[tactic(auto, unfolding(crate::specs::Transmit::transmit_step))]
+    #[tactic(auto, unfolding(crate::specs::TransmitTable::transmit_step))]
     pub fn step(self, inp: TxIn, line: &mut DelayLine) -> (PcsTx, Option<Quarter>)
         ensures state { result.0 ≡ (transmit_step self inp line.old).state }
         ensures driven { result.1 ≡ (transmit_step self inp line.old).driven }

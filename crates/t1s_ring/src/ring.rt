@@ -100,7 +100,7 @@ impl LentRing {
         }
     }
 
-    /// Appends a frame at the back, behind the head. A ring that holds as many frames as its room, the
+    /// Appends a frame at the back, after the head. A ring that holds as many frames as its room, the
     /// head counted, stays as it is, and hands the frame back.
     pub fn offer(&mut self, q: Queued) -> Result<(), Queued>
         ensures taken { IsOk result ↔ (length self.old.frames < self.old.room) }
@@ -130,8 +130,8 @@ impl LentRing {
         ensures bounds { IsQueue result }
     {
         let LentRing { mut lent } = self;
-        let behind = lent.len() - 1;
-        lent.truncate_front(behind);
+        let after_head = lent.len() - 1;
+        lent.truncate_front(after_head);
         FrameRing { frames: lent }
     }
 }

@@ -23,7 +23,7 @@ slice_split-lacks p xs h =
 
 -- ---- lines
 
--- a part in front of others
+-- a part before others
 without_empty_last-cons : (part : List ℕ) (parts : List (List ℕ)) → 0 < length parts → without_empty_last (part ∷ parts) ≡ part ∷ without_empty_last parts
 without_empty_last-cons part [] some = absurd (omega arith)
 without_empty_last-cons part (next ∷ parts) some = refl
@@ -32,7 +32,7 @@ without_empty_last-cons part (next ∷ parts) some = refl
 without_empty_last-one : (part : List ℕ) → 0 < length part → without_empty_last (part ∷ []) ≡ part ∷ []
 without_empty_last-one part some = grind arith
 
--- the first line of a text and those of what stands behind it
+-- the first line of a text and those of what stands after it
 pub lines_of-cut : (text line : List ℕ) (rest : Option (Bor (List ℕ))) (none : Bor (List ℕ)) → none.now ≡ [] → 0 < length text
     → slice_split (λ x. x == 10) text ≡ line ∷ option_map_or (λ (r : Bor (List ℕ)). slice_split (λ x. x == 10) r.now) rest []
     → MatchOption rest (line ≡ text) (λ r. length line + 1 + length r.now ≡ length text)

@@ -11,12 +11,13 @@ use Rattle.std.proofs.lemmas.Bool.Decides.{eqb_tells}
 use Rattle.std.proofs.lemmas.List.{append-nil, append_assoc, get_or-set_same, get_or-set_other}
 use Rattle.std.proofs.lemmas.List.Elements.{filter_map-append}
 use Rattle.std.proofs.lemmas.List.Folds.{list_any-append}
+use Rattle.t1s_base.specs.Limits.{most_nodes, last_node}
 use Rattle.t1s_script.specs.Settings.{default_of}
-use Rattle.t1s_script.specs.Saying.{Said, said}
+use Rattle.t1s_script.specs.ParsedLine.{ParsedLine, parsed_line}
 use Rattle.t1s_script.specs.Values.{number_for, seed_from, node_for, start_for, end_from, is_node, some_gives, first_given, setting_of}
 use Rattle.t1s_script.specs.Rules.{reason_of}
 use Rattle.t1s_script.specs.Reading.{refusal_of, first_refusal_or, script_by, script_from, script_after_first, node_of_line, nodes_of_number, nodes_of, refused_at}
-use Rattle.t1s_script.specs.Draft.{given, with_given, value_in, draft_start, slot_at, with_slot, set_after, seed_after, node_after, late_in_slot, end_after, line_after, said_after, draft_after, node_of, nodes_from, script_with, script_at}
+use Rattle.t1s_script.specs.Draft.{given, with_given, value_in, draft_start, slot_at, with_slot, set_after, seed_after, node_after, late_in_slot, end_after, line_after, unskipped_after, draft_after, node_of, nodes_from, script_with, script_at}
 use Rattle.t1s_script.specs.declared.draft.Draft.{Draft}
 use Rattle.t1s_script.specs.declared.draft.Settings.{Settings}
 use Rattle.t1s_script.specs.declared.draft.Slot.{Slot}
@@ -28,7 +29,7 @@ use Rattle.t1s_script.specs.declared.words.Setting.{Setting}
 use Rattle.t1s_script.specs.declared.words.Setting.TheVariants.{Count, To, Rise, Fall, Burst, Room}
 use Rattle.t1s_script.specs.declared.words.ScriptLine.{ScriptLine}
 use Rattle.t1s_script.specs.declared.words.ScriptLine.TheVariants.{Skipped, Set, Seed, Node, Late, End}
-use Rattle.t1s_script.proofs.Ranges.{InRange, said_range}
+use Rattle.t1s_script.proofs.Ranges.{InRange, parsed_line_range}
 
 -- ---- what a draft holds
 
@@ -39,12 +40,12 @@ abbrev start_in : Option Slot → Option ℕ
 start_in slot = option_and_then (λ (s : Slot). s.start) slot
 
 -- what a draft keeps is all that these lines give
-pub record Holds (lines : List Said) (d : Draft) : Type 0 where
+pub record Holds (lines : List ParsedLine) (d : Draft) : Type 0 where
   pub settings : (w : Setting) → option_to_list (given d.settings w) ≡ filter_map (number_for w) lines
   pub seed : option_to_list d.seed ≡ filter_map seed_from lines
   pub places : (number : ℕ) → option_to_list (option_map id_and_place (slot_at d number)) ≡ filter_map (node_for number) lines
   pub starts : (number : ℕ) → option_to_list (start_in (slot_at d number)) ≡ filter_map (start_for number) lines
-  pub size : length d.slots ≡ 16
+  pub size : length d.slots ≡ most_nodes
   pub some_node : list_any is_some d.slots ≡ list_any is_node lines
   pub end : option_to_list d.end ≡ filter_map end_from lines
 
@@ -57,8 +58,8 @@ start_holds : Holds [] draft_start
 start_holds = record {
   settings = none_given;
   seed = refl;
-  places = λ number. ap (λ o. option_to_list (option_map id_and_place o)) (none_free 16 number);
-  starts = λ number. ap (λ o. option_to_list (start_in o)) (none_free 16 number);
+  places = λ number. ap (λ o. option_to_list (option_map id_and_place o)) (none_free most_nodes number);
+  starts = λ number. ap (λ o. option_to_list (start_in o)) (none_free most_nodes number);
   size = refl;
   some_node = refl;
   end = refl;
@@ -74,9 +75,9 @@ start_holds = record {
 
 -- ---- all that lines give, as one value at most
 
-module _ {X : Type 0} (value : Said → Option X) where
+module _ {X : Type 0} (value : ParsedLine → Option X) where
   -- the test over all lines is the test of the value
-  gives : (lines : List Said) (o : Option X) → option_to_list o ≡ filter_map value lines → some_gives value lines ≡ is_some o
+  gives : (lines : List ParsedLine) (o : Option X) → option_to_list o ≡ filter_map value lines → some_gives value lines ≡ is_some o
   gives [] None e = refl
   gives [] (Some v) e = absurd cc
   gives (line ∷ lines) o e = go (value line) o (gives lines o) e
@@ -87,25 +88,25 @@ module _ {X : Type 0} (value : Said → Option X) where
       go (Some v) (Some w) later e = refl
 
   -- a line that gives none
-  kept : (lines : List Said) (line : Said) (o : Option X) → option_to_list o ≡ filter_map value lines → value line ≡ None → option_to_list o ≡ filter_map value (lines ++ line ∷ [])
+  kept : (lines : List ParsedLine) (line : ParsedLine) (o : Option X) → option_to_list o ≡ filter_map value lines → value line ≡ None → option_to_list o ≡ filter_map value (lines ++ line ∷ [])
   kept lines line o e none =
       e ∙ sym (append-nil (filter_map value lines)) ∙ sym (filter_map-append value lines (line ∷ []) ∙ ap (λ here. filter_map value lines ++ cons_option here []) none)
 
   -- the first line that gives one
-  gained : (lines : List Said) (line : Said) (o : Option X) (v : X) → option_to_list o ≡ filter_map value lines → o ≡ None → value line ≡ Some v → v ∷ [] ≡ filter_map value (lines ++ line ∷ [])
+  gained : (lines : List ParsedLine) (line : ParsedLine) (o : Option X) (v : X) → option_to_list o ≡ filter_map value lines → o ≡ None → value line ≡ Some v → v ∷ [] ≡ filter_map value (lines ++ line ∷ [])
   gained lines line o v e none some =
       let free : [] ≡ filter_map value lines = ap option_to_list (sym none) ∙ e in
       sym (filter_map-append value lines (line ∷ []) ∙ ap (λ here. filter_map value lines ++ cons_option here []) some ∙ ap (λ before. before ++ v ∷ []) (sym free))
 
   -- the value or a default
-  first : (lines : List Said) (o : Option X) (otherwise : X) → option_to_list o ≡ filter_map value lines → unwrap_or o otherwise ≡ first_given value lines otherwise
+  first : (lines : List ParsedLine) (o : Option X) (otherwise : X) → option_to_list o ≡ filter_map value lines → unwrap_or o otherwise ≡ first_given value lines otherwise
   first lines None otherwise e = ap (λ xs. get_or xs 0 otherwise) e
   first lines (Some v) otherwise e = ap (λ xs. get_or xs 0 otherwise) e
 
 -- ---- one more line
 
 -- what a line does: it is refused alike, or the draft holds it too
-abbrev pub IsStep : List Said → Said → Result Draft ScriptReason → Type 0
+abbrev pub IsStep : List ParsedLine → ParsedLine → Result Draft ScriptReason → Type 0
 IsStep lines line (Ok e) = (reason_of lines line ≡ None) × Holds (lines ++ line ∷ []) e
 IsStep lines line (Err reason) = reason_of lines line ≡ Some reason
 
@@ -122,7 +123,7 @@ any_at (None ∷ os) (suc k) slot e = any_at os k slot e
 any_at (Some s ∷ os) k slot e = refl
 
 -- the settings after one more is given
-setting_kept : (lines : List Said) (s : Settings) (v w : Setting) (n : ℕ) → given s v ≡ None → option_to_list (given s w) ≡ filter_map (number_for w) lines
+setting_kept : (lines : List ParsedLine) (s : Settings) (v w : Setting) (n : ℕ) → given s v ≡ None → option_to_list (given s w) ≡ filter_map (number_for w) lines
     → option_to_list (given (with_given s v n) w) ≡ filter_map (number_for w) (lines ++ Ok (Set v n) ∷ [])
 setting_kept lines s Count Count n free e = gained (number_for Count) lines (Ok (Set Count n)) s.count n e free refl
 setting_kept lines s To To n free e = gained (number_for To) lines (Ok (Set To n)) s.to n e free refl
@@ -132,28 +133,28 @@ setting_kept lines s Burst Burst n free e = gained (number_for Burst) lines (Ok 
 setting_kept lines s Room Room n free e = gained (number_for Room) lines (Ok (Set Room n)) s.room n e free refl
 setting_kept lines s v w n free e = kept (number_for w) lines (Ok (Set v n)) (given s w) e refl
 
-module _ (lines : List Said) (d : Draft) (h : Holds lines d) where
+module _ (lines : List ParsedLine) (d : Draft) (h : Holds lines d) where
   -- a `node` line stands among the lines and one more
-  node_or : (line : Said) → list_any is_node (lines ++ line ∷ []) ≡ (list_any is_node lines || (is_node line || false))
+  node_or : (line : ParsedLine) → list_any is_node (lines ++ line ∷ []) ≡ (list_any is_node lines || (is_node line || false))
   node_or line = list_any-append is_node lines (line ∷ [])
 
-  same_nodes : (line : Said) → is_node line ≡ false → list_any is_some d.slots ≡ list_any is_node (lines ++ line ∷ [])
+  same_nodes : (line : ParsedLine) → is_node line ≡ false → list_any is_some d.slots ≡ list_any is_node (lines ++ line ∷ [])
   same_nodes line none = grind (arith, h.some_node, node_or line)
 
   -- what a line gives none of stays as it is
-  same_settings : (line : Said) → ((w : Setting) → number_for w line ≡ None) → (w : Setting) → option_to_list (given d.settings w) ≡ filter_map (number_for w) (lines ++ line ∷ [])
+  same_settings : (line : ParsedLine) → ((w : Setting) → number_for w line ≡ None) → (w : Setting) → option_to_list (given d.settings w) ≡ filter_map (number_for w) (lines ++ line ∷ [])
   same_settings line none w = kept (number_for w) lines line (given d.settings w) (h.settings w) (none w)
 
-  same_seed : (line : Said) → seed_from line ≡ None → option_to_list d.seed ≡ filter_map seed_from (lines ++ line ∷ [])
+  same_seed : (line : ParsedLine) → seed_from line ≡ None → option_to_list d.seed ≡ filter_map seed_from (lines ++ line ∷ [])
   same_seed line none = kept seed_from lines line d.seed h.seed none
 
-  same_places : (line : Said) (k : ℕ) → node_for k line ≡ None → option_to_list (option_map id_and_place (slot_at d k)) ≡ filter_map (node_for k) (lines ++ line ∷ [])
+  same_places : (line : ParsedLine) (k : ℕ) → node_for k line ≡ None → option_to_list (option_map id_and_place (slot_at d k)) ≡ filter_map (node_for k) (lines ++ line ∷ [])
   same_places line k none = kept (node_for k) lines line (option_map id_and_place (slot_at d k)) (h.places k) none
 
-  same_starts : (line : Said) (k : ℕ) → start_for k line ≡ None → option_to_list (start_in (slot_at d k)) ≡ filter_map (start_for k) (lines ++ line ∷ [])
+  same_starts : (line : ParsedLine) (k : ℕ) → start_for k line ≡ None → option_to_list (start_in (slot_at d k)) ≡ filter_map (start_for k) (lines ++ line ∷ [])
   same_starts line k none = kept (start_for k) lines line (start_in (slot_at d k)) (h.starts k) none
 
-  same_end : (line : Said) → end_from line ≡ None → option_to_list d.end ≡ filter_map end_from (lines ++ line ∷ [])
+  same_end : (line : ParsedLine) → end_from line ≡ None → option_to_list d.end ≡ filter_map end_from (lines ++ line ∷ [])
   same_end line none = kept end_from lines line d.end h.end none
 
   skipped_step : Holds (lines ++ Ok Skipped ∷ []) d
@@ -227,14 +228,14 @@ module _ (lines : List Said) (d : Draft) (h : Holds lines d) where
         )
 
     -- a slot that is put
-    module _ (number : ℕ) (slot : Slot) (few : number ≤ 15) where
+    module _ (number : ℕ) (slot : Slot) (few : number ≤ last_node) where
       put_same : slot_at (with_slot d number slot) number ≡ Some slot
       put_same = get_or-set_same d.slots number (Some slot) None (omega (arith, h.size))
 
       put_other : (k : ℕ) → number ≢ k → slot_at (with_slot d number slot) k ≡ slot_at d k
       put_other k other = get_or-set_other d.slots number k (Some slot) None (λ e. other (sym e))
 
-      put_size : length (with_slot d number slot).slots ≡ 16
+      put_size : length (with_slot d number slot).slots ≡ most_nodes
       put_size = length-set d.slots number (Some slot) ∙ h.size
 
       put_any : list_any is_some (with_slot d number slot).slots ≡ true
@@ -250,7 +251,7 @@ module _ (lines : List Said) (d : Draft) (h : Holds lines d) where
     abbrev Tested : ℕ → ℕ → Type 0
     Tested number k = ((eqb number k ≡ true) × (number ≡ k)) ⊎ ((eqb number k ≡ false) × (number ≢ k))
 
-    node_step : (number id place : ℕ) → number ≤ 15 → IsStep lines (Ok (Node number id place)) (node_after d number id place)
+    node_step : (number id place : ℕ) → number ≤ last_node → IsStep lines (Ok (Node number id place)) (node_after d number id place)
     node_step number id place few = go (slot_at d number) refl (gives (node_for number) lines (option_map id_and_place (slot_at d number)) (h.places number))
       where
         here_at : slot_at d number ≡ None → (k : ℕ) → number ≡ k → slot_at d k ≡ None
@@ -292,7 +293,7 @@ module _ (lines : List Said) (d : Draft) (h : Holds lines d) where
             )
 
     -- a `late` line of a node that stood
-    module _ (number start : ℕ) (few : number ≤ 15) (slot : Slot) (here : slot_at d number ≡ Some slot) (free : slot.start ≡ None) where
+    module _ (number start : ℕ) (few : number ≤ last_node) (slot : Slot) (here : slot_at d number ≡ Some slot) (free : slot.start ≡ None) where
       abbrev late_slot : Slot
       late_slot = record slot { start = Some start }
 
@@ -327,7 +328,7 @@ module _ (lines : List Said) (d : Draft) (h : Holds lines d) where
         end = same_end (Ok (Late number start)) refl;
       }
 
-    late_step : (number start : ℕ) → number ≤ 15 → IsStep lines (Ok (Late number start)) (late_in_slot d number start (slot_at d number))
+    late_step : (number start : ℕ) → number ≤ last_node → IsStep lines (Ok (Late number start)) (late_in_slot d number start (slot_at d number))
     late_step number start few =
         go (slot_at d number) refl
         (gives (node_for number) lines (option_map id_and_place (slot_at d number)) (h.places number))
@@ -357,7 +358,7 @@ module _ (lines : List Said) (d : Draft) (h : Holds lines d) where
     line_step (End last) range = end_step last
 
     -- any line where no `end` line stands before it
-    open_step : (line : Said) → ((l : ScriptLine) → line ≡ Ok l → InRange l) → IsStep lines line (said_after d None line)
+    open_step : (line : ParsedLine) → ((l : ScriptLine) → line ≡ Ok l → InRange l) → IsStep lines line (unskipped_after d None line)
     open_step (Err reason) range = rw no_end refl
     open_step (Ok line) range = line_step line (range line refl)
 
@@ -366,32 +367,32 @@ module _ (lines : List Said) (d : Draft) (h : Holds lines d) where
   ended last here = gives end_from lines d.end h.end ∙ ap is_some here
 
   -- any line
-  said_step : (line : Said) → ((l : ScriptLine) → line ≡ Ok l → InRange l) → IsStep lines line (draft_after d line)
-  said_step (Ok Skipped) range = (refl, skipped_step)
-  said_step line range = go d.end refl
+  unskipped_step : (line : ParsedLine) → ((l : ScriptLine) → line ≡ Ok l → InRange l) → IsStep lines line (draft_after d line)
+  unskipped_step (Ok Skipped) range = (refl, skipped_step)
+  unskipped_step line range = go d.end refl
     where
-      go : (o : Option ℕ) → d.end ≡ o → IsStep lines line (said_after d o line)
+      go : (o : Option ℕ) → d.end ≡ o → IsStep lines line (unskipped_after d o line)
       go (Some last) here = rw (ended last here) refl
       go None here = open_step here line range
 
 -- ---- the script that the lines give
 
 -- the node of a slot is that of its lines
-node_held : (lines : List Said) (to number : ℕ) (slot : Slot) → to ≡ setting_of To lines → option_to_list slot.start ≡ filter_map (start_for number) lines
+node_held : (lines : List ParsedLine) (to number : ℕ) (slot : Slot) → to ≡ setting_of To lines → option_to_list slot.start ≡ filter_map (start_for number) lines
     → node_of to number slot ≡ node_of_line lines number (slot.id, slot.place)
 node_held lines to number slot timer starts =
     ap (λ t. record { no = number; id = slot.id; place = slot.place; to = t; start = unwrap_or slot.start 0 }) timer
     ∙ ap (λ t. record { no = number; id = slot.id; place = slot.place; to = setting_of To lines; start = t }) (first (start_for number) lines slot.start 0 starts)
 
 -- the nodes of one slot, and of all slots from a number on
-slot_held : (lines : List Said) (to number : ℕ) (slot : Option Slot) → to ≡ setting_of To lines
+slot_held : (lines : List ParsedLine) (to number : ℕ) (slot : Option Slot) → to ≡ setting_of To lines
     → option_to_list (option_map id_and_place slot) ≡ filter_map (node_for number) lines → option_to_list (start_in slot) ≡ filter_map (start_for number) lines
     → option_to_list (option_map (node_of to number) slot) ≡ nodes_of_number lines number
 slot_held lines to number None timer places starts = ap (λ ps. map (node_of_line lines number) ps) places
 slot_held lines to number (Some slot) timer places starts =
     ap (λ n. n ∷ []) (node_held lines to number slot timer starts) ∙ ap (λ ps. map (node_of_line lines number) ps) places
 
-nodes_held : (lines : List Said) (to number : ℕ) (slots : List (Option Slot)) → to ≡ setting_of To lines
+nodes_held : (lines : List ParsedLine) (to number : ℕ) (slots : List (Option Slot)) → to ≡ setting_of To lines
     → ((i k : ℕ) → k ≡ number + i → option_to_list (option_map id_and_place (get_or slots i None)) ≡ filter_map (node_for k) lines)
     → ((i k : ℕ) → k ≡ number + i → option_to_list (start_in (get_or slots i None)) ≡ filter_map (start_for k) lines)
     → nodes_from to number slots ≡ flat_map (nodes_of_number lines) (range_with_len number (length slots))
@@ -409,7 +410,7 @@ same_script : (s t : Script) → s.count ≡ t.count → s.to ≡ t.to → s.ris
 same_script s t count to rise fall burst room seed nodes end =
     λ i. record { count = count i; to = to i; rise = rise i; fall = fall i; burst = burst i; room = room i; seed = seed i; nodes = nodes i; end = end i }
 
-script_held : (lines : List Said) (d : Draft) (last : ℕ) → Holds lines d → script_with d last ≡ script_from lines last
+script_held : (lines : List ParsedLine) (d : Draft) (last : ℕ) → Holds lines d → script_with d last ≡ script_from lines last
 script_held lines d last h =
     let value : (w : Setting) → value_in d.settings w ≡ setting_of w lines = λ w. first (number_for w) lines (given d.settings w) (default_of w) (h.settings w) in
     let nodes : nodes_from (value_in d.settings To) 0 d.slots ≡ nodes_of lines =
@@ -419,43 +420,43 @@ script_held lines d last h =
 
 -- ---- all lines
 
--- the answer where `all` are all lines, and these stand behind the first n of them
-abbrev answer_from : List Said → ℕ → List Said → Result Script ScriptRefusal
+-- the answer where `all` are all lines, and these stand after the first n of them
+abbrev answer_from : List ParsedLine → ℕ → List ParsedLine → Result Script ScriptRefusal
 answer_from all n rest = first_refusal_or (filter_map (refusal_of all) (enumerate_from n rest)) (script_by all (filter_map end_from all))
 
 -- reading line by line: the lines after those that gave a draft or a reason; `number` lines were taken
-abbrev pub reading_from : ℕ → Result Draft ScriptReason → List Said → Result Script ScriptRefusal
+abbrev pub reading_from : ℕ → Result Draft ScriptReason → List ParsedLine → Result Script ScriptRefusal
 reading_from number (Err reason) lines = refused_at number reason
 reading_from number (Ok d) [] = script_at (number + 1) d d.end
 reading_from number (Ok d) (line ∷ lines) = reading_from (number + 1) (draft_after d line) lines
 
 -- the answer where all lines were taken
-end_held : (lines : List Said) (d : Draft) (number : ℕ) → Holds lines d → number ≡ length lines + 2 → (o : Option ℕ) → option_to_list o ≡ filter_map end_from lines → script_at number d o ≡ script_by lines (filter_map end_from lines)
+end_held : (lines : List ParsedLine) (d : Draft) (number : ℕ) → Holds lines d → number ≡ length lines + 2 → (o : Option ℕ) → option_to_list o ≡ filter_map end_from lines → script_at number d o ≡ script_by lines (filter_map end_from lines)
 end_held lines d number h count None e = ap (λ k. refused_at k NoEnd) count ∙ ap (script_by lines) e
 end_held lines d number h count (Some last) e = ap Ok (script_held lines d last h) ∙ ap (script_by lines) e
 
 -- where a draft holds the lines before, reading the others gives what is said over all lines
-reading_answers : (before : List Said) (d : Draft) (all : List Said) (n : ℕ) (rest : List (List ℕ)) → Holds before d → all ≡ before ++ map said rest → n ≡ length before
-    → reading_from (n + 1) (Ok d) (map said rest) ≡ answer_from all n (map said rest)
+reading_answers : (before : List ParsedLine) (d : Draft) (all : List ParsedLine) (n : ℕ) (rest : List (List ℕ)) → Holds before d → all ≡ before ++ map parsed_line rest → n ≡ length before
+    → reading_from (n + 1) (Ok d) (map parsed_line rest) ≡ answer_from all n (map parsed_line rest)
 reading_answers before d all n [] h whole count =
     end_held before d (n + 1 + 1) h (omega arith) d.end h.end ∙ ap (λ lines. script_by lines (filter_map end_from lines)) (sym (whole ∙ append-nil before))
-reading_answers before d all n (line ∷ rest) h whole count = go (draft_after d (said line)) (said_step before d h (said line) (said_range line))
-    (λ e held. reading_answers (before ++ said line ∷ []) e all (n + 1) rest held (whole ∙ sym (append_assoc before (said line ∷ []) (map said rest))) (omega (arith, length-append before (said line ∷ []))))
+reading_answers before d all n (line ∷ rest) h whole count = go (draft_after d (parsed_line line)) (unskipped_step before d h (parsed_line line) (parsed_line_range line))
+    (λ e held. reading_answers (before ++ parsed_line line ∷ []) e all (n + 1) rest held (whole ∙ sym (append_assoc before (parsed_line line ∷ []) (map parsed_line rest))) (omega (arith, length-append before (parsed_line line ∷ []))))
   where
     front : take n all ≡ before
-    front = ap (λ k. take k all) count ∙ ap (λ lines. take (length before) lines) whole ∙ take-append_seam before (said line ∷ map said rest)
+    front = ap (λ k. take k all) count ∙ ap (λ lines. take (length before) lines) whole ∙ take-append_seam before (parsed_line line ∷ map parsed_line rest)
 
-    broken : (o : Option ScriptReason) → reason_of before (said line) ≡ o → refusal_of all (n, said line) ≡ option_map (λ reason. record { line = n + 2; reason = reason }) o
-    broken o step = ap (λ lines. option_map (λ reason. record { line = n + 2; reason = reason }) (reason_of lines (said line))) front ∙ ap (λ r. option_map (λ reason. record { line = n + 2; reason = reason }) r) step
+    broken : (o : Option ScriptReason) → reason_of before (parsed_line line) ≡ o → refusal_of all (n, parsed_line line) ≡ option_map (λ reason. record { line = n + 2; reason = reason }) o
+    broken o step = ap (λ lines. option_map (λ reason. record { line = n + 2; reason = reason }) (reason_of lines (parsed_line line))) front ∙ ap (λ r. option_map (λ reason. record { line = n + 2; reason = reason }) r) step
 
     answer : Option ScriptRefusal → Result Script ScriptRefusal
-    answer o = first_refusal_or (cons_option o (filter_map (refusal_of all) (enumerate_from (n + 1) (map said rest)))) (script_by all (filter_map end_from all))
+    answer o = first_refusal_or (cons_option o (filter_map (refusal_of all) (enumerate_from (n + 1) (map parsed_line rest)))) (script_by all (filter_map end_from all))
 
-    go : (r : Result Draft ScriptReason) → IsStep before (said line) r → ((e : Draft) → Holds (before ++ said line ∷ []) e → reading_from (n + 1 + 1) (Ok e) (map said rest) ≡ answer_from all (n + 1) (map said rest))
-        → reading_from (n + 1 + 1) r (map said rest) ≡ answer_from all n (said line ∷ map said rest)
+    go : (r : Result Draft ScriptReason) → IsStep before (parsed_line line) r → ((e : Draft) → Holds (before ++ parsed_line line ∷ []) e → reading_from (n + 1 + 1) (Ok e) (map parsed_line rest) ≡ answer_from all (n + 1) (map parsed_line rest))
+        → reading_from (n + 1 + 1) r (map parsed_line rest) ≡ answer_from all n (parsed_line line ∷ map parsed_line rest)
     go (Err reason) step later = let next : n + 1 + 1 ≡ n + 2 = omega arith in ap (λ k. refused_at k reason) next ∙ ap answer (sym (broken (Some reason) step))
     go (Ok e) step later = later e step.1 ∙ ap answer (sym (broken None step.0))
 
 -- the lines after the first, read line by line
-pub by_drafts : (lines : List (List ℕ)) → reading_from 1 (Ok draft_start) (map said lines) ≡ script_after_first (map said lines)
-by_drafts lines = reading_answers [] draft_start (map said lines) 0 lines start_holds refl refl
+pub by_drafts : (lines : List (List ℕ)) → reading_from 1 (Ok draft_start) (map parsed_line lines) ≡ script_after_first (map parsed_line lines)
+by_drafts lines = reading_answers [] draft_start (map parsed_line lines) 0 lines start_holds refl refl

@@ -5,6 +5,7 @@ use Rattle.std.specs.List.{list_any}
 use Rattle.std.specs.List.Sorted.{IsStrictlyIncreasing}
 use native.Mathlib.Numerals.{unary_clauses}
 use Rattle.std.proofs.lemmas.List.Elements.{All-cons, All-nil}
+use Rattle.t1s_base.specs.Limits.{most_nodes, last_node, most_ticks}
 use Rattle.t1s_script.specs.Draft.{node_of, nodes_from}
 use Rattle.t1s_script.specs.Script.{IsNodeLine}
 use Rattle.t1s_script.specs.declared.draft.Slot.{Slot}
@@ -14,7 +15,7 @@ use Rattle.t1s_script.specs.declared.script.NodeLine.{NodeLine}
 pub record IsSlot (slot : Slot) : Type 0 where
   pub id : slot.id ≤ 255
   pub place : slot.place ≤ 255
-  pub start : (t : ℕ) → slot.start ≡ Some t → t ≤ 2000000
+  pub start : (t : ℕ) → slot.start ≡ Some t → t ≤ most_ticks
 
 -- each slot that is taken is in range
 pub record AreSlots (slots : List (Option Slot)) : Type 0 where
@@ -23,11 +24,11 @@ pub record AreSlots (slots : List (Option Slot)) : Type 0 where
 tail_slots : (o : Option Slot) (slots : List (Option Slot)) → AreSlots (o ∷ slots) → AreSlots slots
 tail_slots o slots h = record { each = λ i slot e. h.each (suc i) slot e }
 
-start_range : (o : Option ℕ) → ((t : ℕ) → o ≡ Some t → t ≤ 2000000) → unwrap_or o 0 ≤ 2000000
+start_range : (o : Option ℕ) → ((t : ℕ) → o ≡ Some t → t ≤ most_ticks) → unwrap_or o 0 ≤ most_ticks
 start_range None h = omega arith
 start_range (Some t) h = h t refl
 
-node_range : (to number : ℕ) (slot : Slot) → 16 ≤ to → to ≤ 255 → number ≤ 15 → IsSlot slot → IsNodeLine (node_of to number slot)
+node_range : (to number : ℕ) (slot : Slot) → 16 ≤ to → to ≤ 255 → number ≤ last_node → IsSlot slot → IsNodeLine (node_of to number slot)
 node_range to number slot low high few h = record {
   no_high = few;
   id_high = h.id;
@@ -37,7 +38,7 @@ node_range to number slot low high few h = record {
   start_high = start_range slot.start h.start;
 }
 
-pub nodes_range : (to number : ℕ) (slots : List (Option Slot)) → 16 ≤ to → to ≤ 255 → number + length slots ≤ 16 → AreSlots slots → All IsNodeLine (nodes_from to number slots)
+pub nodes_range : (to number : ℕ) (slots : List (Option Slot)) → 16 ≤ to → to ≤ 255 → number + length slots ≤ most_nodes → AreSlots slots → All IsNodeLine (nodes_from to number slots)
 nodes_range to number [] low high few h = All-nil IsNodeLine
 nodes_range to number (None ∷ slots) low high few h = nodes_range to (number + 1) slots low high (omega arith) (tail_slots None slots h)
 nodes_range to number (Some slot ∷ slots) low high few h =

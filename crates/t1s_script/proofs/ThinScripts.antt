@@ -2,13 +2,15 @@
 use Rattle.std.proofs.Common.{◌≡◌, ℕ, zero, suc, ◌+◌, ◌<◌, ◌≤◌, Bool, true, false, cond, leb, ltb, List, [], ◌∷◌, length, get_or, map, set, Option, Some, None, Result, Ok, Err, refl, sym, ◌∙◌, ap, subst, arith, unwrap_or, All}
 use Rattle.std.specs.Prelude.{◌&&◌, is_some, codes}
 use Rattle.std.specs.Str.{bytes_eq}
+use Rattle.std.specs.Cmp.{first_so, second_so}
 use Rattle.std.specs.List.{list_any}
 use Rattle.std.proofs.Math.ListN.{length-set}
 use Rattle.std.proofs.lemmas.Bool.Decides.{nat_tests}
 use Rattle.std.proofs.lemmas.List.Elements.{All-cons, All-nil}
+use Rattle.t1s_base.specs.Limits.{most_nodes}
 use Rattle.t1s_script.specs.Lines.{lines_of}
-use Rattle.t1s_script.specs.Saying.{Said, said}
-use Rattle.t1s_script.specs.Draft.{value_in, draft_start, with_slot, said_after, draft_after, node_of, nodes_from, script_with}
+use Rattle.t1s_script.specs.ParsedLine.{ParsedLine, parsed_line}
+use Rattle.t1s_script.specs.Draft.{value_in, draft_start, with_slot, unskipped_after, draft_after, node_of, nodes_from, script_with}
 use Rattle.t1s_script.specs.Reading.{script_after_first, script_in, refused_at}
 use Rattle.t1s_script.specs.ThinForm.{are_thin_nodes, are_thin_after_count, are_thin, have_thin_form, IsThinNode, IsThinScript, ThinScriptsHaveDefaults}
 use Rattle.t1s_script.specs.declared.draft.Draft.{Draft}
@@ -19,7 +21,7 @@ use Rattle.t1s_script.specs.declared.script.Script.{Script}
 use Rattle.t1s_script.specs.declared.words.Setting.TheVariants.{Count, To, Rise, Fall, Burst, Room}
 use Rattle.t1s_script.specs.declared.words.ScriptLine.{ScriptLine}
 use Rattle.t1s_script.specs.declared.words.ScriptLine.TheVariants.{Skipped, Set, Seed, Node, Late, End}
-use Rattle.t1s_script.proofs.Ranges.{InRange, said_range}
+use Rattle.t1s_script.proofs.Ranges.{InRange, parsed_line_range}
 use Rattle.t1s_script.proofs.Drafts.{reading_from, by_drafts, any_set, none_free}
 
 -- what reading gives is a thin script
@@ -35,7 +37,7 @@ record IsThinDraft (least : ℕ) (d : Draft) : Type 0 where
   pub room : d.settings.room ≡ None
   pub seed : d.seed ≡ None
   pub end : d.end ≡ None
-  pub size : length d.slots ≡ 16
+  pub size : length d.slots ≡ most_nodes
   pub free : (i : ℕ) → least ≤ i → get_or d.slots i None ≡ None
   pub starts : (i : ℕ) (slot : Slot) → get_or d.slots i None ≡ Some slot → slot.start ≡ None
 
@@ -83,7 +85,7 @@ slot_of id place = record { id = id; place = place; start = None }
 
 node_taken : (least number id place : ℕ) (d : Draft) → IsThinDraft least d → least ≤ number → draft_after d (Ok (Node number id place)) ≡ Ok (with_slot d number (slot_of id place))
 node_taken least number id place d h above =
-    ap (λ o. said_after d o (Ok (Node number id place))) h.end
+    ap (λ o. unskipped_after d o (Ok (Node number id place))) h.end
     ∙ ap (λ o. cond (is_some o) (Err Twice) (Ok (with_slot d number (slot_of id place)))) (h.free number above)
 
 node_thin : (least number id place : ℕ) (d : Draft) → IsThinDraft least d → least ≤ number → IsThinDraft (number + 1) (with_slot d number (slot_of id place))
@@ -102,23 +104,18 @@ node_thin least number id place d h above = record {
 
 -- ---- the lines
 
-both : (a b : Bool) → (a && b) ≡ true → (a ≡ true) × (b ≡ true)
-both true true e = (refl, refl)
-both true false e = cc
-both false b e = cc
-
 ended : (number least : ℕ) (d : Draft) (last : ℕ) → IsThinDraft least d → list_any is_some d.slots ≡ true → Reads (reading_from number (Ok d) (Ok (End last) ∷ []))
 ended number least d last h any =
     let taken : draft_after d (Ok (End last)) ≡ Ok (record d { end = Some last }) =
-    ap (λ o. said_after d o (Ok (End last))) h.end ∙ ap (λ b. cond b (Ok (record d { end = Some last })) (Err NoNode)) any in
+    ap (λ o. unskipped_after d o (Ok (End last))) h.end ∙ ap (λ b. cond b (Ok (record d { end = Some last })) (Err NoNode)) any in
     (script_with (record d { end = Some last }) last, ap (λ r. reading_from (number + 1) r []) taken, script_thin least d last h)
 
 -- a `node` line, where the lines after it are read
-node_read : (number least n id place : ℕ) (d : Draft) (rest : List Said) → IsThinDraft least d → least ≤ n → Reads (reading_from (number + 1) (Ok (with_slot d n (slot_of id place))) rest) → Reads (reading_from number (Ok d) (Ok (Node n id place) ∷ rest))
+node_read : (number least n id place : ℕ) (d : Draft) (rest : List ParsedLine) → IsThinDraft least d → least ≤ n → Reads (reading_from (number + 1) (Ok (with_slot d n (slot_of id place))) rest) → Reads (reading_from number (Ok d) (Ok (Node n id place) ∷ rest))
 node_read number least n id place d rest h above later =
     (later.0, ap (λ r. reading_from (number + 1) r rest) (node_taken least n id place d h above) ∙ later.1, later.2)
 
-one_read : (number least : ℕ) (d : Draft) (x : Said) (rest : List Said) → ((l : ScriptLine) → x ≡ Ok l → InRange l) → IsThinDraft least d → list_any is_some d.slots ≡ true
+one_read : (number least : ℕ) (d : Draft) (x : ParsedLine) (rest : List ParsedLine) → ((l : ScriptLine) → x ≡ Ok l → InRange l) → IsThinDraft least d → list_any is_some d.slots ≡ true
     → ((k : ℕ) (e : Draft) → IsThinDraft k e → list_any is_some e.slots ≡ true → are_thin_nodes k rest ≡ true → Reads (reading_from (number + 1) (Ok e) rest))
     → are_thin_nodes least (x ∷ rest) ≡ true → Reads (reading_from number (Ok d) (x ∷ rest))
 one_read number least d (Err reason) rest range h any next thin = cc
@@ -129,23 +126,24 @@ one_read number least d (Ok (Late n start)) rest range h any next thin = cc
 one_read number least d (Ok (End last)) [] range h any next thin = ended number least d last h any
 one_read number least d (Ok (End last)) (y ∷ ys) range h any next thin = cc
 one_read number least d (Ok (Node n id place)) rest range h any next thin =
-    let parts = both (leb least n) (are_thin_nodes (n + 1) rest) thin in
-    let above : least ≤ n = (let test = parts.0 in grind (arith, nat_tests)) in
+    let first_holds = first_so (leb least n) (are_thin_nodes (n + 1) rest) thin in
+    let second_holds = second_so (leb least n) (are_thin_nodes (n + 1) rest) thin in
+    let above : least ≤ n = (let test = first_holds in grind (arith, nat_tests)) in
     let few = (range (Node n id place) refl).0 in
     node_read number least n id place d rest h above
-    (next (n + 1) (with_slot d n (slot_of id place)) (node_thin least n id place d h above) (any_set d.slots n (slot_of id place) (omega (arith, h.size))) parts.1)
+    (next (n + 1) (with_slot d n (slot_of id place)) (node_thin least n id place d h above) (any_set d.slots n (slot_of id place) (omega (arith, h.size))) second_holds)
 
-nodes_read : (number least : ℕ) (d : Draft) (lines : List (List ℕ)) → IsThinDraft least d → list_any is_some d.slots ≡ true → are_thin_nodes least (map said lines) ≡ true → Reads (reading_from number (Ok d) (map said lines))
+nodes_read : (number least : ℕ) (d : Draft) (lines : List (List ℕ)) → IsThinDraft least d → list_any is_some d.slots ≡ true → are_thin_nodes least (map parsed_line lines) ≡ true → Reads (reading_from number (Ok d) (map parsed_line lines))
 nodes_read number least d [] h any thin = cc
 nodes_read number least d (line ∷ lines) h any thin =
-    one_read number least d (said line) (map said lines) (said_range line) h any
+    one_read number least d (parsed_line line) (map parsed_line lines) (parsed_line_range line) h any
     (λ k e so_far some later. nodes_read (number + 1) k e lines so_far some later) thin
 
-after_count_read : (number : ℕ) (d : Draft) (lines : List (List ℕ)) → IsThinDraft 0 d → are_thin_after_count (map said lines) ≡ true → Reads (reading_from number (Ok d) (map said lines))
+after_count_read : (number : ℕ) (d : Draft) (lines : List (List ℕ)) → IsThinDraft 0 d → are_thin_after_count (map parsed_line lines) ≡ true → Reads (reading_from number (Ok d) (map parsed_line lines))
 after_count_read number d [] h thin = cc
-after_count_read number d (line ∷ lines) h thin = go (said line) (said_range line) thin
+after_count_read number d (line ∷ lines) h thin = go (parsed_line line) (parsed_line_range line) thin
   where
-    go : (x : Said) → ((l : ScriptLine) → x ≡ Ok l → InRange l) → are_thin_after_count (x ∷ map said lines) ≡ true → Reads (reading_from number (Ok d) (x ∷ map said lines))
+    go : (x : ParsedLine) → ((l : ScriptLine) → x ≡ Ok l → InRange l) → are_thin_after_count (x ∷ map parsed_line lines) ≡ true → Reads (reading_from number (Ok d) (x ∷ map parsed_line lines))
     go (Err reason) range thin = cc
     go (Ok Skipped) range thin = cc
     go (Ok (Set w n)) range thin = cc
@@ -154,7 +152,7 @@ after_count_read number d (line ∷ lines) h thin = go (said line) (said_range l
     go (Ok (End last)) range thin = cc
     go (Ok (Node n id place)) range thin =
         let few = (range (Node n id place) refl).0 in
-        node_read number 0 n id place d (map said lines) h (omega arith)
+        node_read number 0 n id place d (map parsed_line lines) h (omega arith)
         (nodes_read (number + 1) (n + 1) (with_slot d n (slot_of id place)) lines (node_thin 0 n id place d h (omega arith)) (any_set d.slots n (slot_of id place) (omega (arith, h.size))) thin)
 
 -- after the line `count N`
@@ -171,15 +169,15 @@ counted_thin n = record {
   seed = refl;
   end = refl;
   size = refl;
-  free = λ i high. none_free 16 i;
-  starts = λ i slot e. absurd (cc (none_free 16 i));
+  free = λ i high. none_free most_nodes i;
+  starts = λ i slot e. absurd (cc (none_free most_nodes i));
 }
 
-lines_read : (lines : List (List ℕ)) → are_thin (map said lines) ≡ true → Reads (reading_from 1 (Ok draft_start) (map said lines))
+lines_read : (lines : List (List ℕ)) → are_thin (map parsed_line lines) ≡ true → Reads (reading_from 1 (Ok draft_start) (map parsed_line lines))
 lines_read [] thin = cc
-lines_read (line ∷ lines) thin = go (said line) thin
+lines_read (line ∷ lines) thin = go (parsed_line line) thin
   where
-    go : (x : Said) → are_thin (x ∷ map said lines) ≡ true → Reads (reading_from 1 (Ok draft_start) (x ∷ map said lines))
+    go : (x : ParsedLine) → are_thin (x ∷ map parsed_line lines) ≡ true → Reads (reading_from 1 (Ok draft_start) (x ∷ map parsed_line lines))
     go (Err reason) thin = cc
     go (Ok Skipped) thin = cc
     go (Ok (Seed n)) thin = cc
@@ -196,13 +194,15 @@ lines_read (line ∷ lines) thin = go (said line) thin
 all_read : (lines : List (List ℕ)) → have_thin_form lines ≡ true → Reads (script_in lines)
 all_read [] thin = cc
 all_read (first ∷ lines) thin =
-    let parts = both (bytes_eq first (codes "t1s 1")) (are_thin (map said lines)) thin in
-    let read = lines_read lines parts.1 in
-    (read.0, ap (λ b. cond b (script_after_first (map said lines)) (refused_at 1 FirstLine)) parts.0 ∙ sym (by_drafts lines) ∙ read.1, read.2)
+    let first_holds = first_so (bytes_eq first (codes "t1s 1")) (are_thin (map parsed_line lines)) thin in
+    let second_holds = second_so (bytes_eq first (codes "t1s 1")) (are_thin (map parsed_line lines)) thin in
+    let read = lines_read lines second_holds in
+    (read.0, ap (λ b. cond b (script_after_first (map parsed_line lines)) (refused_at 1 FirstLine)) first_holds ∙ sym (by_drafts lines) ∙ read.1, read.2)
 
 pub thin_scripts : ThinScriptsHaveDefaults
 thin_scripts octets thin =
-    let parts = both (leb (length octets) 1048576) (have_thin_form (lines_of octets)) thin in
-    let read = all_read (lines_of octets) parts.1 in
-    let short : ltb 1048576 (length octets) ≡ false = (let test = parts.0 in grind (arith, nat_tests)) in
+    let first_holds = first_so (leb (length octets) 1048576) (have_thin_form (lines_of octets)) thin in
+    let second_holds = second_so (leb (length octets) 1048576) (have_thin_form (lines_of octets)) thin in
+    let read = all_read (lines_of octets) second_holds in
+    let short : ltb 1048576 (length octets) ≡ false = (let test = first_holds in grind (arith, nat_tests)) in
     (read.0, ap (λ b. cond b (refused_at 0 TooLong) (script_in (lines_of octets))) short ∙ read.1, read.2)

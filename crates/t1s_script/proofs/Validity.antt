@@ -4,10 +4,11 @@ use Rattle.std.specs.Prelude.{is_some, codes, IfOk}
 use Rattle.std.specs.Str.{bytes_eq}
 use Rattle.std.specs.List.{list_any}
 use Rattle.std.proofs.Math.ListN.{length-set}
+use Rattle.t1s_base.specs.Limits.{most_nodes, last_node, most_ticks}
 use Rattle.t1s_script.specs.Lines.{lines_of}
 use Rattle.t1s_script.specs.Settings.{lowest, highest, default_of}
-use Rattle.t1s_script.specs.Saying.{Said, said}
-use Rattle.t1s_script.specs.Draft.{given, with_given, value_in, draft_start, slot_at, with_slot, set_after, seed_after, node_after, late_in_slot, late_after, end_after, line_after, said_after, draft_after, script_with, script_at}
+use Rattle.t1s_script.specs.ParsedLine.{ParsedLine, parsed_line}
+use Rattle.t1s_script.specs.Draft.{given, with_given, value_in, draft_start, slot_at, with_slot, set_after, seed_after, node_after, late_in_slot, late_after, end_after, line_after, unskipped_after, draft_after, script_with, script_at}
 use Rattle.t1s_script.specs.Script.{IsScript}
 use Rattle.t1s_script.specs.Reading.{script_after_first, script_in, script_of, refused_at, IsAnswer, ReadScriptsAreValid}
 use Rattle.t1s_script.specs.declared.refusals.ScriptFault.{ScriptFault}
@@ -22,7 +23,7 @@ use Rattle.t1s_script.specs.declared.words.Setting.{Setting}
 use Rattle.t1s_script.specs.declared.words.Setting.TheVariants.{Count, To, Rise, Fall, Burst, Room}
 use Rattle.t1s_script.specs.declared.words.ScriptLine.{ScriptLine}
 use Rattle.t1s_script.specs.declared.words.ScriptLine.TheVariants.{Skipped, Set, Seed, Node, Late, End}
-use Rattle.t1s_script.proofs.Ranges.{InRange, said_range}
+use Rattle.t1s_script.proofs.Ranges.{InRange, parsed_line_range}
 use Rattle.t1s_script.proofs.Drafts.{reading_from, by_drafts}
 use Rattle.t1s_script.proofs.Nodes.{IsSlot, AreSlots, nodes_range, length-nodes_from, some_node, nodes_increase}
 
@@ -43,8 +44,8 @@ pub record IsDraft (d : Draft) : Type 0 where
   pub settings : AreSettings d.settings
   pub seed : (n : ℕ) → d.seed ≡ Some n → n ≤ 4294967295
   pub slots : AreSlots d.slots
-  pub size : length d.slots ≡ 16
-  pub end : (last : ℕ) → d.end ≡ Some last → (1 ≤ last) × (last ≤ 2000000) × (list_any is_some d.slots ≡ true)
+  pub size : length d.slots ≡ most_nodes
+  pub end : (last : ℕ) → d.end ≡ Some last → (1 ≤ last) × (last ≤ most_ticks) × (list_any is_some d.slots ≡ true)
 
 -- ---- the start
 
@@ -60,7 +61,7 @@ start_valid : IsDraft draft_start
 start_valid = record {
   settings = record { count = none_in Count; to = none_in To; rise = none_in Rise; fall = none_in Fall; burst = none_in Burst; room = none_in Room };
   seed = λ n e. cc;
-  slots = record { each = free 16 };
+  slots = record { each = free most_nodes };
   size = refl;
   end = λ last e. cc;
 }
@@ -113,7 +114,7 @@ module _ (d : Draft) (h : IsDraft d) (open_end : d.end ≡ None) where
     end = λ last e. cc;
   }
 
-  node_valid : (number id place : ℕ) (e : Draft) → (number ≤ 15) × (id ≤ 255) × (place ≤ 255) → node_after d number id place ≡ Ok e → IsDraft e
+  node_valid : (number id place : ℕ) (e : Draft) → (number ≤ last_node) × (id ≤ 255) × (place ≤ 255) → node_after d number id place ≡ Ok e → IsDraft e
   node_valid number id place e range is = go (is_some (slot_at d number)) is
     where
       go : (b : Bool) → cond b (Err Twice) (Ok (with_slot d number (record { id = id; place = place; start = None }))) ≡ Ok e → IsDraft e
@@ -122,7 +123,7 @@ module _ (d : Draft) (h : IsDraft d) (open_end : d.end ≡ None) where
           let same : with_slot d number (record { id = id; place = place; start = None }) ≡ e = cc in
           subst IsDraft same (slot_valid number (record { id = id; place = place; start = None }) (record { id = range.1; place = range.2; start = λ t f. cc }))
 
-  late_valid : (number start : ℕ) (e : Draft) → (number ≤ 15) × (start ≤ 2000000) → late_after d number start ≡ Ok e → IsDraft e
+  late_valid : (number start : ℕ) (e : Draft) → (number ≤ last_node) × (start ≤ most_ticks) → late_after d number start ≡ Ok e → IsDraft e
   late_valid number start e range is = at (slot_at d number) refl is
     where
       at : (o : Option Slot) → slot_at d number ≡ o → late_in_slot d number start o ≡ Ok e → IsDraft e
@@ -134,16 +135,16 @@ module _ (d : Draft) (h : IsDraft d) (open_end : d.end ≡ None) where
           go false is =
               let same : with_slot d number (record slot { start = Some start }) ≡ e = cc in
               let old : IsSlot slot = h.slots.each number slot here in
-              subst IsDraft same (slot_valid number (record slot { start = Some start }) (record { id = old.id; place = old.place; start = λ t f. (let now : start ≡ t = cc in subst (λ k. k ≤ 2000000) now range.1) }))
+              subst IsDraft same (slot_valid number (record slot { start = Some start }) (record { id = old.id; place = old.place; start = λ t f. (let now : start ≡ t = cc in subst (λ k. k ≤ most_ticks) now range.1) }))
 
-  end_valid : (last : ℕ) (e : Draft) → (1 ≤ last) × (last ≤ 2000000) → end_after d last ≡ Ok e → IsDraft e
+  end_valid : (last : ℕ) (e : Draft) → (1 ≤ last) × (last ≤ most_ticks) → end_after d last ≡ Ok e → IsDraft e
   end_valid last e range is = go (list_any is_some d.slots) refl is
     where
       go : (b : Bool) → list_any is_some d.slots ≡ b → cond b (Ok (record d { end = Some last })) (Err NoNode) ≡ Ok e → IsDraft e
       go false any is = cc
       go true any is =
           let same : record d { end = Some last } ≡ e = cc in
-          subst IsDraft same (record { settings = h.settings; seed = h.seed; slots = h.slots; size = h.size; end = λ n f. (let now : last ≡ n = cc in subst (λ k. (1 ≤ k) × (k ≤ 2000000) × (list_any is_some d.slots ≡ true)) now (range.0, range.1, any)) })
+          subst IsDraft same (record { settings = h.settings; seed = h.seed; slots = h.slots; size = h.size; end = λ n f. (let now : last ≡ n = cc in subst (λ k. (1 ≤ k) × (k ≤ most_ticks) × (list_any is_some d.slots ≡ true)) now (range.0, range.1, any)) })
 
   line_valid : (l : ScriptLine) (e : Draft) → InRange l → line_after d l ≡ Ok e → IsDraft e
   line_valid Skipped e range is = let same : d ≡ e = cc in subst IsDraft same h
@@ -153,22 +154,22 @@ module _ (d : Draft) (h : IsDraft d) (open_end : d.end ≡ None) where
   line_valid (Late number start) e range is = late_valid number start e range is
   line_valid (End last) e range is = end_valid last e range is
 
-said_valid : (d : Draft) (o : Option ℕ) (l : ScriptLine) (e : Draft) → IsDraft d → d.end ≡ o → InRange l → said_after d o (Ok l) ≡ Ok e → IsDraft e
-said_valid d (Some last) l e h here range is = cc
-said_valid d None l e h here range is = line_valid d h here l e range is
+unskipped_valid : (d : Draft) (o : Option ℕ) (l : ScriptLine) (e : Draft) → IsDraft d → d.end ≡ o → InRange l → unskipped_after d o (Ok l) ≡ Ok e → IsDraft e
+unskipped_valid d (Some last) l e h here range is = cc
+unskipped_valid d None l e h here range is = line_valid d h here l e range is
 
-draft_valid : (d : Draft) (x : Said) (e : Draft) → IsDraft d → ((l : ScriptLine) → x ≡ Ok l → InRange l) → draft_after d x ≡ Ok e → IsDraft e
+draft_valid : (d : Draft) (x : ParsedLine) (e : Draft) → IsDraft d → ((l : ScriptLine) → x ≡ Ok l → InRange l) → draft_after d x ≡ Ok e → IsDraft e
 draft_valid d (Err reason) e h range is = go d.end is
   where
-    go : (o : Option ℕ) → said_after d o (Err reason) ≡ Ok e → IsDraft e
+    go : (o : Option ℕ) → unskipped_after d o (Err reason) ≡ Ok e → IsDraft e
     go (Some last) is = cc
     go None is = cc
 draft_valid d (Ok Skipped) e h range is = let same : d ≡ e = cc in subst IsDraft same h
-draft_valid d (Ok (Set w m)) e h range is = said_valid d d.end (Set w m) e h refl (range (Set w m) refl) is
-draft_valid d (Ok (Seed m)) e h range is = said_valid d d.end (Seed m) e h refl (range (Seed m) refl) is
-draft_valid d (Ok (Node number id place)) e h range is = said_valid d d.end (Node number id place) e h refl (range (Node number id place) refl) is
-draft_valid d (Ok (Late number start)) e h range is = said_valid d d.end (Late number start) e h refl (range (Late number start) refl) is
-draft_valid d (Ok (End last)) e h range is = said_valid d d.end (End last) e h refl (range (End last) refl) is
+draft_valid d (Ok (Set w m)) e h range is = unskipped_valid d d.end (Set w m) e h refl (range (Set w m) refl) is
+draft_valid d (Ok (Seed m)) e h range is = unskipped_valid d d.end (Seed m) e h refl (range (Seed m) refl) is
+draft_valid d (Ok (Node number id place)) e h range is = unskipped_valid d d.end (Node number id place) e h refl (range (Node number id place) refl) is
+draft_valid d (Ok (Late number start)) e h range is = unskipped_valid d d.end (Late number start) e h refl (range (Late number start) refl) is
+draft_valid d (Ok (End last)) e h range is = unskipped_valid d d.end (End last) e h refl (range (End last) refl) is
 
 -- ---- the script of all lines
 
@@ -210,10 +211,10 @@ script_valid d last h is =
       end_high = end.1;
     }
 
-reading_valid : (number : ℕ) (x : Result Draft ScriptReason) (lines : List (List ℕ)) (s : Script) → ((d : Draft) → x ≡ Ok d → IsDraft d) → reading_from number x (map said lines) ≡ Ok s → IsScript s
+reading_valid : (number : ℕ) (x : Result Draft ScriptReason) (lines : List (List ℕ)) (s : Script) → ((d : Draft) → x ≡ Ok d → IsDraft d) → reading_from number x (map parsed_line lines) ≡ Ok s → IsScript s
 reading_valid number (Err reason) lines s h is = go lines is
   where
-    go : (lines : List (List ℕ)) → reading_from number (Err reason) (map said lines) ≡ Ok s → IsScript s
+    go : (lines : List (List ℕ)) → reading_from number (Err reason) (map parsed_line lines) ≡ Ok s → IsScript s
     go [] is = cc
     go (line ∷ lines) is = cc
 reading_valid number (Ok d) [] s h is = go d.end refl is
@@ -222,13 +223,13 @@ reading_valid number (Ok d) [] s h is = go d.end refl is
     go None here is = cc
     go (Some last) here is = let same : script_with d last ≡ s = cc in subst IsScript same (script_valid d last (h d refl) here)
 reading_valid number (Ok d) (line ∷ lines) s h is =
-    reading_valid (number + 1) (draft_after d (said line)) lines s (λ e after. draft_valid d (said line) e (h d refl) (said_range line) after) is
+    reading_valid (number + 1) (draft_after d (parsed_line line)) lines s (λ e after. draft_valid d (parsed_line line) e (h d refl) (parsed_line_range line) after) is
 
 lines_valid : (lines : List (List ℕ)) (s : Script) → script_in lines ≡ Ok s → IsScript s
 lines_valid [] s is = cc
 lines_valid (first ∷ lines) s is = go (bytes_eq first (codes "t1s 1")) is
   where
-    go : (b : Bool) → cond b (script_after_first (map said lines)) (refused_at 1 FirstLine) ≡ Ok s → IsScript s
+    go : (b : Bool) → cond b (script_after_first (map parsed_line lines)) (refused_at 1 FirstLine) ≡ Ok s → IsScript s
     go true is = reading_valid 1 (Ok draft_start) lines s (λ d same. (let here : draft_start ≡ d = cc in subst IsDraft here start_valid)) (by_drafts lines ∙ is)
     go false is = cc
 

@@ -2,8 +2,9 @@
 -- on it: that stands in Reading, and proofs/Drafts shows that both agree.
 use Rattle.std.specs.Prelude.{ℕ, ◌+◌, List, [], ◌∷◌, replicate, get_or, slice_set, is_some, unwrap_or, Option, Some, None, Result, Ok, Err, if◌then◌else◌}
 use Rattle.std.specs.List.{list_any}
+use Rattle.t1s_base.specs.Limits.{most_nodes}
 use Rattle.t1s_script.specs.Settings.{default_of}
-use Rattle.t1s_script.specs.Saying.{Said}
+use Rattle.t1s_script.specs.ParsedLine.{ParsedLine}
 use Rattle.t1s_script.specs.Reading.{refused_at}
 use Rattle.t1s_script.specs.declared.draft.Draft.{Draft}
 use Rattle.t1s_script.specs.declared.draft.Settings.{Settings}
@@ -48,9 +49,9 @@ value_in s w = unwrap_or (given s w) (default_of w)
 
 -- ---- the draft
 
--- no line stood yet: there is a free slot for each of the node numbers 0 to 15
+-- no line stood yet: there is a free slot for each node that a segment may have
 abbrev pub draft_start : Draft
-draft_start = record { settings = no_settings; seed = None; slots = replicate 16 None; end = None }
+draft_start = record { settings = no_settings; seed = None; slots = replicate most_nodes None; end = None }
 
 -- what stood for the node of that number, if its `node` line stood
 abbrev pub slot_at : Draft → ℕ → Option Slot
@@ -92,15 +93,15 @@ line_after d (Late number start) = late_after d number start
 line_after d (End last) = end_after d last
 
 -- a line that isn't skipped, where `end` stood or not
-abbrev pub said_after : Draft → Option ℕ → Said → Result Draft ScriptReason
-said_after d (Some last) line = Err AfterEnd
-said_after d None (Ok line) = line_after d line
-said_after d None (Err reason) = Err reason
+abbrev pub unskipped_after : Draft → Option ℕ → ParsedLine → Result Draft ScriptReason
+unskipped_after d (Some last) line = Err AfterEnd
+unskipped_after d None (Ok line) = line_after d line
+unskipped_after d None (Err reason) = Err reason
 
 -- any line
-abbrev pub draft_after : Draft → Said → Result Draft ScriptReason
+abbrev pub draft_after : Draft → ParsedLine → Result Draft ScriptReason
 draft_after d (Ok Skipped) = Ok d
-draft_after d line = said_after d d.end line
+draft_after d line = unskipped_after d d.end line
 
 -- ---- the script that the lines give
 

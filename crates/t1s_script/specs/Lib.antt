@@ -1,6 +1,6 @@
 pub mod Lines
 pub mod Settings
-pub mod Saying
+pub mod ParsedLine
 pub mod Values
 pub mod Rules
 pub mod Ranges

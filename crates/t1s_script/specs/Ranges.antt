@@ -1,13 +1,14 @@
 -- The numbers that a line gives.
 use Rattle.std.specs.Prelude.{◌≤◌, ⊤}
+use Rattle.t1s_base.specs.Limits.{last_node}
 use Rattle.t1s_script.specs.declared.words.ScriptLine.{ScriptLine}
 use Rattle.t1s_script.specs.declared.words.ScriptLine.TheVariants.{Skipped, Set, Seed, Node, Late, End}
 
--- the number of a node in the line is one of the sixteen
+-- the number of a node in the line is one that a segment may have
 abbrev pub HasSlot : ScriptLine → Type 0
 HasSlot Skipped = ⊤
 HasSlot (Set w n) = ⊤
 HasSlot (Seed n) = ⊤
-HasSlot (Node number id place) = number ≤ 15
-HasSlot (Late number start) = number ≤ 15
+HasSlot (Node number id place) = number ≤ last_node
+HasSlot (Late number start) = number ≤ last_node
 HasSlot (End last) = ⊤

@@ -3,8 +3,9 @@
 use Rattle.std.specs.Prelude.{ℕ, ◌+◌, List, [], ◌∷◌, length, map, take, flat_map, filter_map, nat_lt, codes, Option, option_map, Result, Ok, Err, ⊤, ◌≡◌, if◌then◌else◌}
 use Rattle.std.specs.List.{enumerate_from, range_with_len}
 use Rattle.std.specs.Str.{bytes_eq}
+use Rattle.t1s_base.specs.Limits.{most_nodes}
 use Rattle.t1s_script.specs.Lines.{lines_of}
-use Rattle.t1s_script.specs.Saying.{Said, said}
+use Rattle.t1s_script.specs.ParsedLine.{ParsedLine, parsed_line}
 use Rattle.t1s_script.specs.Values.{seed_from, node_for, start_for, end_from, first_given, setting_of}
 use Rattle.t1s_script.specs.Rules.{reason_of}
 use Rattle.t1s_script.specs.Script.{IsScript}
@@ -21,7 +22,7 @@ use Rattle.t1s_script.specs.declared.words.Setting.TheVariants.{Count, To, Rise,
 
 -- the node of that number, as its `node` line names it: its timer is that of the script, and without a `late`
 -- line it starts at tick 0
-abbrev pub node_of_line : List Said → ℕ → ℕ × ℕ → NodeLine
+abbrev pub node_of_line : List ParsedLine → ℕ → ℕ × ℕ → NodeLine
 node_of_line lines number line = record {
   no = number;
   id = line.0;
@@ -31,15 +32,15 @@ node_of_line lines number line = record {
 }
 
 -- the node of that number, if it has a `node` line
-abbrev pub nodes_of_number : List Said → ℕ → List NodeLine
+abbrev pub nodes_of_number : List ParsedLine → ℕ → List NodeLine
 nodes_of_number lines number = map (node_of_line lines number) (filter_map (node_for number) lines)
 
--- the nodes in ascending number, 0 to 15
-abbrev pub nodes_of : List Said → List NodeLine
-nodes_of lines = flat_map (nodes_of_number lines) (range_with_len 0 16)
+-- the nodes in ascending number
+abbrev pub nodes_of : List ParsedLine → List NodeLine
+nodes_of lines = flat_map (nodes_of_number lines) (range_with_len 0 most_nodes)
 
 -- the script that these lines give, with that `end`
-abbrev pub script_from : List Said → ℕ → Script
+abbrev pub script_from : List ParsedLine → ℕ → Script
 script_from lines last = record {
   count = setting_of Count lines;
   to = setting_of To lines;
@@ -56,18 +57,18 @@ abbrev pub refused_at : ℕ → ScriptReason → Result Script ScriptRefusal
 refused_at number reason = Err (record { line = number; reason = reason })
 
 -- by the `end` lines: without one the refused line is the one after all lines
-abbrev pub script_by : List Said → List ℕ → Result Script ScriptRefusal
+abbrev pub script_by : List ParsedLine → List ℕ → Result Script ScriptRefusal
 script_by lines [] = refused_at (length lines + 2) NoEnd
 script_by lines (last ∷ further) = Ok (script_from lines last)
 
 -- ---- the refused line
 
 -- the refusal of a line, if it breaks a rule; it comes with the number of lines between it and the first line
-abbrev pub refusal_of : List Said → ℕ × Said → Option ScriptRefusal
+abbrev pub refusal_of : List ParsedLine → ℕ × ParsedLine → Option ScriptRefusal
 refusal_of lines line = option_map (λ reason. record { line = line.0 + 2; reason = reason }) (reason_of (take line.0 lines) line.1)
 
 -- the refusals of all lines after the first that break a rule
-abbrev pub refusals_of : List Said → List ScriptRefusal
+abbrev pub refusals_of : List ParsedLine → List ScriptRefusal
 refusals_of lines = filter_map (refusal_of lines) (enumerate_from 0 lines)
 
 -- the first refusal, and where there is none the other answer
@@ -78,18 +79,18 @@ first_refusal_or (refusal ∷ further) answer = Err refusal
 -- ---- all lines
 
 -- the lines after the first
-abbrev pub script_after_first : List Said → Result Script ScriptRefusal
+abbrev pub script_after_first : List ParsedLine → Result Script ScriptRefusal
 script_after_first lines = first_refusal_or (refusals_of lines) (script_by lines (filter_map end_from lines))
 
 abbrev pub script_in : List (List ℕ) → Result Script ScriptRefusal
 script_in [] = refused_at 1 FirstLine
-script_in (first ∷ lines) = if bytes_eq first (codes "t1s 1") then script_after_first (map said lines) else refused_at 1 FirstLine
+script_in (first ∷ lines) = if bytes_eq first (codes "t1s 1") then script_after_first (map parsed_line lines) else refused_at 1 FirstLine
 
 -- what the octets of a script give: the script, or the refused line and the reason
 abbrev pub script_of : List ℕ → Result Script ScriptRefusal
 script_of octets = if nat_lt 1048576 (length octets) then refused_at 0 TooLong else script_in (lines_of octets)
 
--- The answer is the one that reading gives. Want of memory may come in place of any.
+-- The answer is the one that reading gives. Out of memory may come in place of any.
 abbrev pub IsAnswer : Result Script ScriptRefusal → Result Script ScriptFault → Type 0
 IsAnswer reading (Ok script) = reading ≡ Ok script
 IsAnswer reading (Err (Refused refusal)) = reading ≡ Err refusal

@@ -2,7 +2,7 @@
 -- reasons. A line is refused for the first reason of the table.
 use Rattle.std.specs.Prelude.{Bool, false, not, List, Option, Some, None, Ok, Err, if◌then◌else◌}
 use Rattle.std.specs.List.{list_any}
-use Rattle.t1s_script.specs.Saying.{Said}
+use Rattle.t1s_script.specs.ParsedLine.{ParsedLine}
 use Rattle.t1s_script.specs.Values.{number_for, seed_from, node_for, start_for, end_from, is_node, some_gives}
 use Rattle.t1s_script.specs.declared.refusals.ScriptReason.{ScriptReason}
 use Rattle.t1s_script.specs.declared.refusals.ScriptReason.TheVariants.{AfterEnd, Twice, UnknownNode, NoNode}
@@ -10,12 +10,12 @@ use Rattle.t1s_script.specs.declared.words.ScriptLine.{ScriptLine}
 use Rattle.t1s_script.specs.declared.words.ScriptLine.TheVariants.{Skipped, Set, Seed, Node, Late, End}
 
 -- `AfterEnd`: a line that isn't skipped stands after `end`
-abbrev pub stands_after_end : List Said → Said → Bool
+abbrev pub stands_after_end : List ParsedLine → ParsedLine → Bool
 stands_after_end earlier (Ok Skipped) = false
 stands_after_end earlier line = some_gives end_from earlier
 
 -- `Twice`: a line that may stand once stands again; a second `end` is `AfterEnd`
-abbrev pub stands_again : List Said → ScriptLine → Bool
+abbrev pub stands_again : List ParsedLine → ScriptLine → Bool
 stands_again earlier (Set w n) = some_gives (number_for w) earlier
 stands_again earlier (Seed n) = some_gives seed_from earlier
 stands_again earlier (Node number id place) = some_gives (node_for number) earlier
@@ -23,17 +23,17 @@ stands_again earlier (Late number start) = some_gives (start_for number) earlier
 stands_again earlier _ = false
 
 -- `UnknownNode`: a line names a node that has no earlier `node` line
-abbrev pub names_unknown_node : List Said → ScriptLine → Bool
+abbrev pub names_unknown_node : List ParsedLine → ScriptLine → Bool
 names_unknown_node earlier (Late number start) = not (some_gives (node_for number) earlier)
 names_unknown_node earlier _ = false
 
 -- `NoNode`: `end` comes and no `node` line stood before
-abbrev pub ends_without_node : List Said → ScriptLine → Bool
+abbrev pub ends_without_node : List ParsedLine → ScriptLine → Bool
 ends_without_node earlier (End last) = not (list_any is_node earlier)
 ends_without_node earlier _ = false
 
 -- the first reason that the lines before a line give for it
-abbrev pub reason_among : List Said → ScriptLine → Option ScriptReason
+abbrev pub reason_among : List ParsedLine → ScriptLine → Option ScriptReason
 reason_among earlier line =
     if stands_again earlier line then Some Twice
     else if names_unknown_node earlier line then Some UnknownNode
@@ -41,10 +41,10 @@ reason_among earlier line =
     else None
 
 -- the first reason where `end` didn't stand before: the line's own reason comes first
-abbrev pub reason_before_end : List Said → Said → Option ScriptReason
+abbrev pub reason_before_end : List ParsedLine → ParsedLine → Option ScriptReason
 reason_before_end earlier (Err reason) = Some reason
 reason_before_end earlier (Ok line) = reason_among earlier line
 
 -- the first reason of all, if the line breaks any rule
-abbrev pub reason_of : List Said → Said → Option ScriptReason
+abbrev pub reason_of : List ParsedLine → ParsedLine → Option ScriptReason
 reason_of earlier line = if stands_after_end earlier line then Some AfterEnd else reason_before_end earlier line

@@ -3,7 +3,7 @@
 use Rattle.std.specs.Prelude.{ℕ, ◌+◌, ◌≡◌, ◌&&◌, Bool, true, false, List, [], ◌∷◌, map, nat_le, length, codes, Ok, All}
 use Rattle.std.specs.Str.{bytes_eq}
 use Rattle.t1s_script.specs.Lines.{lines_of}
-use Rattle.t1s_script.specs.Saying.{Said, said}
+use Rattle.t1s_script.specs.ParsedLine.{ParsedLine, parsed_line}
 use Rattle.t1s_script.specs.Reading.{script_of}
 use Rattle.t1s_script.specs.declared.script.NodeLine.{NodeLine}
 use Rattle.t1s_script.specs.declared.script.Script.{Script}
@@ -11,24 +11,24 @@ use Rattle.t1s_script.specs.declared.words.Setting.TheVariants.{Count}
 use Rattle.t1s_script.specs.declared.words.ScriptLine.TheVariants.{Set, Node, End}
 
 -- further `node` lines, each of them of that number at least, and then `end` as the last line
-abbrev pub are_thin_nodes : ℕ → List Said → Bool
+abbrev pub are_thin_nodes : ℕ → List ParsedLine → Bool
 are_thin_nodes least (Ok (Node number id place) ∷ lines) = nat_le least number && are_thin_nodes (number + 1) lines
 are_thin_nodes least (Ok (End last) ∷ []) = true
 are_thin_nodes least _ = false
 
 -- at least one `node` line
-abbrev pub are_thin_after_count : List Said → Bool
+abbrev pub are_thin_after_count : List ParsedLine → Bool
 are_thin_after_count (Ok (Node number id place) ∷ lines) = are_thin_nodes (number + 1) lines
 are_thin_after_count _ = false
 
 -- the lines after the first
-abbrev pub are_thin : List Said → Bool
+abbrev pub are_thin : List ParsedLine → Bool
 are_thin (Ok (Set Count n) ∷ lines) = are_thin_after_count lines
 are_thin _ = false
 
 abbrev pub have_thin_form : List (List ℕ) → Bool
 have_thin_form [] = false
-have_thin_form (first ∷ lines) = bytes_eq first (codes "t1s 1") && are_thin (map said lines)
+have_thin_form (first ∷ lines) = bytes_eq first (codes "t1s 1") && are_thin (map parsed_line lines)
 
 -- the octets of a script have the thin form
 abbrev pub has_thin_form : List ℕ → Bool

@@ -2,7 +2,7 @@
 use Rattle.std.specs.Prelude.{ℕ, ◌==◌, Bool, true, false, List, filter_map, slice_index_or, is_some, Option, Some, None, Ok, if◌then◌else◌}
 use Rattle.std.specs.List.{list_any}
 use Rattle.t1s_script.specs.Settings.{default_of}
-use Rattle.t1s_script.specs.Saying.{Said}
+use Rattle.t1s_script.specs.ParsedLine.{ParsedLine}
 use Rattle.t1s_script.specs.declared.words.Setting.{Setting}
 use Rattle.t1s_script.specs.declared.words.Setting.TheVariants.{Count, To, Rise, Fall, Burst, Room}
 use Rattle.t1s_script.specs.declared.words.ScriptLine.TheVariants.{Set, Seed, Node, Late, End}
@@ -19,44 +19,44 @@ same_setting Room Room = true
 same_setting _ _ = false
 
 -- the number of a line for that setting
-abbrev pub number_for : Setting → Said → Option ℕ
+abbrev pub number_for : Setting → ParsedLine → Option ℕ
 number_for w (Ok (Set v n)) = if same_setting v w then Some n else None
 number_for w _ = None
 
 -- the seed of a `seed` line
-abbrev pub seed_from : Said → Option ℕ
+abbrev pub seed_from : ParsedLine → Option ℕ
 seed_from (Ok (Seed n)) = Some n
 seed_from _ = None
 
 -- the ID and the place of a `node` line of that number
-abbrev pub node_for : ℕ → Said → Option (ℕ × ℕ)
+abbrev pub node_for : ℕ → ParsedLine → Option (ℕ × ℕ)
 node_for number (Ok (Node other id place)) = if other == number then Some (id, place) else None
 node_for number _ = None
 
 -- the tick of a `late` line of that number
-abbrev pub start_for : ℕ → Said → Option ℕ
+abbrev pub start_for : ℕ → ParsedLine → Option ℕ
 start_for number (Ok (Late other start)) = if other == number then Some start else None
 start_for number _ = None
 
 -- the number of ticks of an `end` line
-abbrev pub end_from : Said → Option ℕ
+abbrev pub end_from : ParsedLine → Option ℕ
 end_from (Ok (End last)) = Some last
 end_from _ = None
 
-abbrev pub is_node : Said → Bool
+abbrev pub is_node : ParsedLine → Bool
 is_node (Ok (Node number id place)) = true
 is_node _ = false
 
 -- ---- all of some lines
 
 -- one of these lines gives it
-abbrev pub some_gives : {X : Type 0} → (Said → Option X) → List Said → Bool
+abbrev pub some_gives : {X : Type 0} → (ParsedLine → Option X) → List ParsedLine → Bool
 some_gives value lines = list_any (λ line. is_some (value line)) lines
 
 -- what the first of these lines that gives it gives, or this where none does
-abbrev pub first_given : {X : Type 0} → (Said → Option X) → List Said → X → X
+abbrev pub first_given : {X : Type 0} → (ParsedLine → Option X) → List ParsedLine → X → X
 first_given value lines otherwise = slice_index_or (filter_map value lines) 0 otherwise
 
 -- the number that holds for the whole script
-abbrev pub setting_of : Setting → List Said → ℕ
+abbrev pub setting_of : Setting → List ParsedLine → ℕ
 setting_of w lines = first_given (number_for w) lines (default_of w)

@@ -2,6 +2,7 @@
 ghost use Rattle.std.specs.Prelude.{◌≡◌, ◌≤◌, Ok, Err, IfOk, MatchResult, is_some};
 ghost use Rattle.std.specs.List.{list_any};
 ghost use Rattle.std.specs.Result.{ForOk};
+ghost use Rattle.t1s_base.specs.Limits.{last_node};
 ghost use Rattle.t1s_script.specs.Draft.{draft_after, draft_start, end_after, given, late_after, line_after, no_settings, node_after, nodes_from, script_with, seed_after, set_after, slot_at, value_in, with_given, with_slot};
 ghost use Rattle.t1s_script.specs.Ranges.{HasSlot};
 
@@ -9,9 +10,10 @@ use crate::refusals::ScriptReason;
 use crate::script::{NodeLine, NodeList, Script};
 use crate::words::{ScriptLine, Setting};
 use std::alloc::{AllocError, Global};
+use t1s_base::MOST_NODES;
 
-/// How many numbers a node can have.
-const NODE_NUMBERS: usize = 16;
+/// A slot for each node that a segment may have.
+const SLOTS: usize = MOST_NODES as usize;
 
 /// The seed where no line gives one.
 const DEFAULT_SEED: u64 = 1;
@@ -93,7 +95,7 @@ pub struct Draft {
     pub settings: Settings,
     pub seed: Option<u64>,
     /// By the number of the node.
-    pub slots: [Option<Slot>; 16],
+    pub slots: [Option<Slot>; SLOTS],
     /// The number of ticks of the run, once `end` stood.
     pub end: Option<u64>,
 }
@@ -106,14 +108,14 @@ impl Draft {
         Draft {
             settings: Settings::none(),
             seed: None,
-            slots: [None; NODE_NUMBERS],
+            slots: [None; SLOTS],
             end: None,
         }
     }
 
     /// What stood for the node of that number.
     fn slot(&self, no: u8) -> Option<Slot>
-        requires { no ≤ 15 }
+        requires { no ≤ last_node }
         ensures { result ≡ slot_at self.now no }
     {
         self.slots[usize::from(no)]
@@ -121,7 +123,7 @@ impl Draft {
 
     /// Puts what stands for the node of that number.
     fn put(&mut self, no: u8, slot: Slot)
-        requires { no ≤ 15 }
+        requires { no ≤ last_node }
         ensures { self.new ≡ with_slot self.old no slot }
     {
         self.slots[usize::from(no)] = Some(slot);
@@ -158,7 +160,7 @@ impl Draft {
 
     /// A `node` line.
     fn take_node(&mut self, no: u8, id: u8, place: u8) -> Result<(), ScriptReason>
-        requires { no ≤ 15 }
+        requires { no ≤ last_node }
         ensures { MatchResult result (λ _. node_after self.old no id place ≡ Ok self.new) (λ reason. node_after self.old no id place ≡ Err reason) }
     {
         if self.slot(no).is_some() {
@@ -177,7 +179,7 @@ impl Draft {
 
     /// A `late` line.
     fn take_late(&mut self, no: u8, start: u64) -> Result<(), ScriptReason>
-        requires { no ≤ 15 }
+        requires { no ≤ last_node }
         ensures { MatchResult result (λ _. late_after self.old no start ≡ Ok self.new) (λ reason. late_after self.old no start ≡ Err reason) }
     {
         let slot = self.slot(no).ok_or(ScriptReason::UnknownNode)?;
@@ -221,17 +223,17 @@ impl Draft {
     }
 
     /// Any line after the first, by what it says by itself.
-    pub fn take(&mut self, said: Result<ScriptLine, ScriptReason>) -> Result<(), ScriptReason>
-        requires { ForOk said HasSlot }
-        ensures { MatchResult result (λ _. draft_after self.old said ≡ Ok self.new) (λ reason. draft_after self.old said ≡ Err reason) }
+    pub fn take(&mut self, line: Result<ScriptLine, ScriptReason>) -> Result<(), ScriptReason>
+        requires { ForOk line HasSlot }
+        ensures { MatchResult result (λ _. draft_after self.old line ≡ Ok self.new) (λ reason. draft_after self.old line ≡ Err reason) }
     {
-        if said == Ok(ScriptLine::Skipped) {
+        if line == Ok(ScriptLine::Skipped) {
             return Ok(());
         }
         if self.end.is_some() {
             return Err(ScriptReason::AfterEnd);
         }
-        self.take_line(said?)
+        self.take_line(line?)
     }
 
     /// The nodes in ascending number.
@@ -239,7 +241,7 @@ impl Draft {
         ensures { IfOk result (λ nodes. nodes.items ≡ nodes_from to 0 self.now.slots) }
     {
         let mut nodes = Vec::new(alloc);
-        for no in 0..NODE_NUMBERS {
+        for no in 0..SLOTS {
             if let Some(slot) = self.slots[no] {
                 nodes.push(NodeLine {
                     no: no as u8,

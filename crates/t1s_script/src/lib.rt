@@ -2,7 +2,7 @@
 //!
 //! The layer above uses that `read_script` answers what the definition gives, and that the script of an
 //! `Ok` is valid (`IsScript` in `specs/Script.antt`). The definition, `script_of` in `specs/Reading.antt`,
-//! speaks of the list of all lines; what a line says by itself stands in `specs/Saying.antt`, and the rules
+//! speaks of the list of all lines; what a line says by itself stands in `specs/ParsedLine.antt`, and the rules
 //! that it can break in the light of the lines before it in `specs/Rules.antt`. `specs/Draft.antt` is only
 //! what the code keeps while it reads. Fit scripts, the span and the bound stand in `specs/Fit.antt`.
 #![tactic(auto)]
@@ -10,9 +10,9 @@
 mod draft;
 mod fitness;
 pub mod laws;
+mod parsing;
 mod reading;
 mod refusals;
-mod saying;
 mod script;
 mod text;
 mod words;

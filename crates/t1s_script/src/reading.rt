@@ -1,14 +1,14 @@
 // How a script is read.
 ghost use Rattle.std.specs.Prelude.{◌≡◌, ◌+◌, ◌≤◌, IfOk, Ok, map};
 ghost use Rattle.t1s_script.specs.Lines.{lines_of};
-ghost use Rattle.t1s_script.specs.Saying.{said};
+ghost use Rattle.t1s_script.specs.ParsedLine.{parsed_line};
 ghost use Rattle.t1s_script.specs.Draft.{script_at};
 ghost use Rattle.t1s_script.specs.Reading.{IsAnswer, script_after_first, script_of};
 ghost use Rattle.t1s_script.specs.Script.{IsScript};
 
 use crate::draft::Draft;
+use crate::parsing::read_line;
 use crate::refusals::{ScriptFault, ScriptReason, ScriptRefusal};
-use crate::saying::read_line;
 use crate::script::Script;
 use crate::text::Lines;
 use std::alloc::Global;
@@ -36,7 +36,7 @@ fn finished(alloc: Global, number: u32, draft: &Draft) -> Result<Script, ScriptF
 /// Reads the lines after the first.
 fn read_lines(alloc: Global, mut lines: Lines<'_>) -> Result<Script, ScriptFault>
     requires { lines.taken ≡ 1 }
-    ensures { IsAnswer (script_after_first (map said (lines_of lines.entry.rest.now))) result }
+    ensures { IsAnswer (script_after_first (map parsed_line (lines_of lines.entry.rest.now))) result }
 {
     let mut draft = Draft::start();
     while let Some(line) = lines.next() {

@@ -45,7 +45,7 @@ pub struct ScriptRefusal {
 pub enum ScriptFault {
     /// The octets are no script.
     Refused(ScriptRefusal),
-    /// Want of memory.
+    /// Out of memory.
     Memory(AllocError),
 }
 

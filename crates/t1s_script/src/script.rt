@@ -5,7 +5,7 @@ use std::marker::Model;
 /// A node of a script.
 #[derive(Clone, Copy, PartialEq, Eq, Debug)]
 pub struct NodeLine {
-    /// The node's number, 0 to 15.
+    /// The node's number, at most [`t1s_base::LAST_NODE`].
     pub no: u8,
     /// Its PLCA node ID.
     pub id: u8,
@@ -13,7 +13,7 @@ pub struct NodeLine {
     pub place: u8,
     /// Its opportunity timer, 16 to 255 ticks.
     pub to: u8,
-    /// The tick at which it starts, at most 2,000,000.
+    /// The tick at which it starts, at most [`t1s_base::MOST_TICKS`].
     pub start: u64,
 }
 
@@ -65,8 +65,8 @@ pub struct Script {
     pub room: u8,
     /// The seed of the draws, at most 4,294,967,295.
     pub seed: u64,
-    /// The nodes, 1 to 16 of them.
+    /// The nodes, from one to [`t1s_base::MOST_NODES`].
     pub nodes: NodeList,
-    /// The run has the ticks 0 to `end` - 1; `end` is 1 to 2,000,000.
+    /// The run has the ticks 0 to `end` - 1; `end` is 1 to [`t1s_base::MOST_TICKS`].
     pub end: u64,
 }

@@ -1,7 +1,7 @@
 // What a line of a script says.
 ghost use Rattle.std.specs.Prelude.{◌≡◌};
 ghost use Rattle.t1s_script.specs.Settings.{lowest, highest, default_of};
-ghost use Rattle.t1s_script.specs.Saying.{word_of};
+ghost use Rattle.t1s_script.specs.ParsedLine.{word_of};
 
 /// A number that holds for the whole script and may stand once. Each is an octet.
 #[derive(Clone, Copy, PartialEq, Eq, Debug)]

@@ -1,4 +1,4 @@
-use Rattle.plca_control.proofs.Along.{beacon_lasts}
+use Rattle.plca_control.proofs.RunLaws.{beacon_lasts}
 use Rattle.plca_control.proofs.laws.beacons_last_twenty.Goals as goal
 
 pub returns : goal.returns

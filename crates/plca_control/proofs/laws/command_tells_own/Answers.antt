@@ -1,4 +1,4 @@
-use Rattle.plca_control.proofs.Along.{holds, not_own}
+use Rattle.plca_control.proofs.RunLaws.{holds, not_own}
 use Rattle.plca_control.proofs.laws.command_tells_own.Goals as goal
 
 pub returns : goal.returns

@@ -1,4 +1,4 @@
-use Rattle.plca_control.proofs.Along.{commit_until_begun}
+use Rattle.plca_control.proofs.RunLaws.{commit_until_begun}
 use Rattle.plca_control.proofs.laws.holds_until_begun.Goals as goal
 
 pub returns : goal.returns

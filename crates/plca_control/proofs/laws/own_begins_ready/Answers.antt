@@ -1,4 +1,4 @@
-use Rattle.plca_control.proofs.Along.{begins_ready}
+use Rattle.plca_control.proofs.RunLaws.{begins_ready}
 use Rattle.plca_control.proofs.laws.own_begins_ready.Goals as goal
 
 pub returns : goal.returns

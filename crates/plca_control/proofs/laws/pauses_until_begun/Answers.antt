@@ -1,4 +1,4 @@
-use Rattle.plca_control.proofs.Along.{pause_until_begun}
+use Rattle.plca_control.proofs.RunLaws.{pause_until_begun}
 use Rattle.plca_control.proofs.laws.pauses_until_begun.Goals as goal
 
 pub returns : goal.returns

@@ -1,4 +1,4 @@
-use Rattle.plca_control.proofs.InRange.{stays_in_range}
+use Rattle.plca_control.proofs.RunRanges.{stays_in_range}
 use Rattle.plca_control.proofs.laws.stays_in_range.Goals as goal
 
 pub returns : goal.returns

@@ -1,4 +1,4 @@
-use Rattle.plca_control.proofs.Along.{transmits_once_begun, transmits_until_closed}
+use Rattle.plca_control.proofs.RunLaws.{transmits_once_begun, transmits_until_closed}
 use Rattle.plca_control.proofs.laws.transmits_until_closed.Goals as goal
 
 pub returns : goal.returns

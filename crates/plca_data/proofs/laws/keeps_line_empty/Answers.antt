@@ -1,4 +1,4 @@
-use Rattle.plca_data.proofs.Along.{keeps_line_empty}
+use Rattle.plca_data.proofs.RunLaws.{keeps_line_empty}
 use Rattle.plca_data.proofs.laws.keeps_line_empty.Goals as goal
 
 pub returns : goal.returns

@@ -1,4 +1,4 @@
-use Rattle.plca_data.proofs.Along.{keeps_ranges}
+use Rattle.plca_data.proofs.RunLaws.{keeps_ranges}
 use Rattle.plca_data.proofs.laws.keeps_ranges.Goals as goal
 
 pub returns : goal.returns

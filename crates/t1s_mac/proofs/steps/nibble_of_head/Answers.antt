@@ -1,5 +1,5 @@
 use Rattle.std.proofs.Common.{ap, ◌∙◌, unwrap_or}
-use Rattle.t1s_mac.proofs.Heads.{head_nibble, head_nibbles_some}
+use Rattle.t1s_mac.proofs.HeadNibbles.{head_nibble, head_nibbles_some}
 use Rattle.t1s_mac.proofs.steps.nibble_of_head.Goals as goal
 
 pub returns-clause-nibble : goal.returns-clause-nibble

@@ -1,8 +1,8 @@
 use Rattle.t1s_ring.specs.Queue.{empty_queue}
 use Rattle.t1s_node.specs.Core.{core_start}
-use Rattle.t1s_node.proofs.Along.{begin_at}
+use Rattle.t1s_node.proofs.RunPlaces.{begin_at}
 use Rattle.t1s_node.proofs.CoreSteps.{start_stands}
-use Rattle.t1s_node.proofs.Opens.{commits_briefly}
+use Rattle.t1s_node.proofs.WaitingFrame.{commits_briefly}
 use Rattle.t1s_node.proofs.laws.commits_briefly.Goals as goal
 
 pub returns : goal.returns

@@ -1,6 +1,6 @@
 use Rattle.t1s_ring.specs.Queue.{empty_queue}
 use Rattle.t1s_node.specs.Core.{core_start}
-use Rattle.t1s_node.proofs.Defers.{defers_briefly}
+use Rattle.t1s_node.proofs.Deferral.{defers_briefly}
 use Rattle.t1s_node.proofs.laws.defers_briefly.Goals as goal
 
 pub returns : goal.returns

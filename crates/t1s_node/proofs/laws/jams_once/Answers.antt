@@ -1,7 +1,7 @@
 use Rattle.std.proofs.Common.{refl, add-one}
 use Rattle.t1s_ring.specs.Queue.{empty_queue}
 use Rattle.t1s_node.specs.Core.{core_start}
-use Rattle.t1s_node.proofs.Along.{begin_at}
+use Rattle.t1s_node.proofs.RunPlaces.{begin_at}
 use Rattle.t1s_node.proofs.CoreSteps.{start_stands}
 use Rattle.t1s_node.proofs.JamCount.{jams_once}
 use Rattle.t1s_node.proofs.laws.jams_once.Goals as goal

@@ -1,8 +1,8 @@
 use Rattle.t1s_ring.specs.Queue.{empty_queue}
 use Rattle.t1s_node.specs.Core.{core_start}
-use Rattle.t1s_node.proofs.Along.{begin_at}
+use Rattle.t1s_node.proofs.RunPlaces.{begin_at}
 use Rattle.t1s_node.proofs.CoreSteps.{start_stands}
-use Rattle.t1s_node.proofs.Ways.{leaves_or_pends}
+use Rattle.t1s_node.proofs.FrameWays.{leaves_or_pends}
 use Rattle.t1s_node.proofs.laws.leaves_or_pends.Goals as goal
 
 pub returns : goal.returns

@@ -1,9 +1,9 @@
 use Rattle.std.proofs.Common.{add-one}
 use Rattle.t1s_ring.specs.Queue.{empty_queue}
 use Rattle.t1s_node.specs.Core.{core_start}
-use Rattle.t1s_node.proofs.Along.{begin_at}
+use Rattle.t1s_node.proofs.RunPlaces.{begin_at}
 use Rattle.t1s_node.proofs.CoreSteps.{start_stands}
-use Rattle.t1s_node.proofs.Opens.{pends_until_own}
+use Rattle.t1s_node.proofs.WaitingFrame.{pends_until_own}
 use Rattle.t1s_node.proofs.laws.pends_until_own.Goals as goal
 
 pub returns : goal.returns

@@ -1,6 +1,6 @@
 use Rattle.t1s_ring.specs.Queue.{empty_queue}
 use Rattle.t1s_node.specs.Core.{core_start}
-use Rattle.t1s_node.proofs.Along.{begin_at}
+use Rattle.t1s_node.proofs.RunPlaces.{begin_at}
 use Rattle.t1s_node.proofs.CoreSteps.{start_stands}
 use Rattle.t1s_node.proofs.FirstH.{sends_whole}
 use Rattle.t1s_node.proofs.laws.sends_whole_piece.Goals as goal

@@ -1,4 +1,4 @@
-use Rattle.t1s_pcs_tx.proofs.Spelled.{sends_frames as it_holds}
+use Rattle.t1s_pcs_tx.proofs.PieceWithLead.{sends_frames as it_holds}
 use Rattle.t1s_pcs_tx.proofs.laws.sends_frames.Goals as goal
 
 pub returns : goal.returns

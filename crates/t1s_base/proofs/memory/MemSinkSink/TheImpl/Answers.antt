@@ -1,6 +1,6 @@
 use Rattle.std.proofs.Common.{Some, ap, arith}
 use Rattle.std.proofs.lemmas.Result.{IfErr-weaker, on_ok_weaker, on_err_weaker}
-use Rattle.t1s_base.proofs.Tells.{either_way, write_prefix, cause_of_count}
+use Rattle.t1s_base.proofs.TraitClauses.{either_way, write_prefix, cause_of_count}
 use Rattle.t1s_base.proofs.memory.MemSinkSink.TheImpl.Goals as goal
 
 pub write-tells : goal.write-tells

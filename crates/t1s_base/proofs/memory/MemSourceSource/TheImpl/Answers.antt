@@ -1,6 +1,6 @@
 use Rattle.std.proofs.Common.{Some, ap}
 use Rattle.std.proofs.lemmas.Result.{IfOk-weaker, on_err_weaker}
-use Rattle.t1s_base.proofs.Tells.{read_bound, read_octets, read_end, cause_of_count}
+use Rattle.t1s_base.proofs.TraitClauses.{read_bound, read_octets, read_end, cause_of_count}
 use Rattle.t1s_base.proofs.memory.MemSourceSource.TheImpl.Goals as goal
 
 pub read-tells : goal.read-tells

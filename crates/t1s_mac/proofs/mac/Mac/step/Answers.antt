@@ -1,6 +1,6 @@
 use Rattle.std.proofs.Common.{ap, sym, subst}
 use Rattle.t1s_ring.specs.Queue.{Queue}
-use Rattle.t1s_mac.specs.Mac.{Row, LeavesByNote}
+use Rattle.t1s_mac.specs.MacTable.{Row, LeavesByNote}
 use Rattle.t1s_mac.specs.State.{phase_of, queue_of}
 use Rattle.t1s_mac.proofs.Rows.{leaves_row}
 use Rattle.t1s_mac.proofs.mac.Mac.step.Goals as goal

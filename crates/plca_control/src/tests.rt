@@ -92,7 +92,7 @@ fn check(rt: &impl Abort, id: u8, stretches: &[Stretch]) {
 }
 
 #[test]
-fn each_kind_of_node_keeps_its_turn(rt: HostRuntime) {
+fn a_disabled_node_takes_no_part(rt: HostRuntime) {
     check(
         &rt,
         255,
@@ -102,6 +102,10 @@ fn each_kind_of_node_keeps_its_turn(rt: HostRuntime) {
             (READY, 9, OUTSIDE),
         ],
     );
+}
+
+#[test]
+fn a_coordinator_gives_beacons(rt: HostRuntime) {
     check(
         &rt,
         0,
@@ -120,6 +124,10 @@ fn each_kind_of_node_keeps_its_turn(rt: HostRuntime) {
             (SILENCE, 1, BEACON),
         ],
     );
+}
+
+#[test]
+fn a_follower_keeps_its_turn(rt: HostRuntime) {
     check(
         &rt,
         1,

@@ -32,6 +32,11 @@ const ENDED: DataIn = DataIn {
     ..ACTIVE
 };
 
+const ENDED_OUTSIDE: DataIn = DataIn {
+    active: false,
+    ..ENDED
+};
+
 const TAKEN: DataIn = DataIn {
     crs: true,
     class: Class::Run,
@@ -115,6 +120,11 @@ const BEGUN_BAD: Signals = Signals {
     ..BEGUN
 };
 
+const BEGUN_BAD_ENDED: Signals = Signals {
+    ended: true,
+    ..BEGUN_BAD
+};
+
 /// The same input for so many ticks, what each of them must show, and how many nibbles the line holds then.
 type Stretch = (DataIn, u16, Signals, u8);
 
@@ -185,15 +195,7 @@ fn a_frame_waits_in_the_line_and_goes_through_it(rt: HostRuntime) -> Result<(), 
             (OWN, 3, FREE, 0),
             (OWN_NIBBLE, 1, BEGUN, 1),
             (OWN_HIT, 1, BEGUN_BAD, 1),
-            (
-                OWN_ENDED,
-                1,
-                Signals {
-                    ended: true,
-                    ..BEGUN_BAD
-                },
-                1,
-            ),
+            (OWN_ENDED, 1, BEGUN_BAD_ENDED, 1),
             (ACTIVE, 1, FREE, 0),
             (NIBBLE, 1, HOLD, 1),
             (ENDED, 1, FREE, 0),
@@ -232,15 +234,7 @@ fn a_frame_that_met_a_collision_is_awaited_anew(rt: HostRuntime) -> Result<(), F
             (OUTSIDE, 1, COLLIDE, 0),
             (ENDED, 1, CLOSED_OFF, 0),
             (NIBBLE, 1, COLLIDE, 0),
-            (
-                DataIn {
-                    active: false,
-                    ..ENDED
-                },
-                1,
-                CLOSED_OFF,
-                0,
-            ),
+            (ENDED_OUTSIDE, 1, CLOSED_OFF, 0),
             (ACTIVE, 1, FREE, 0),
         ],
     );

@@ -188,9 +188,9 @@ fn run(node: &mut Node, ticks: u16, burst: Burst, octets: &[u8]) -> (Tally, Piec
 
 #[test]
 fn follower_that_hears_a_beacon_in_time_sends_its_frame_whole(rt: HostRuntime) -> Result<(), Fail> {
-    let mut node = follower(rt.alloc())?;
     let offer = queued(7)?;
     let frame = offer.frame.copy();
+    let mut node = follower(rt.alloc())?;
     node.offer(offer)?;
     let beacon = Burst {
         from: 200,
@@ -215,8 +215,9 @@ fn follower_that_hears_a_beacon_in_time_sends_its_frame_whole(rt: HostRuntime) -
 
 #[test]
 fn frame_in_hold_is_jammed_where_another_node_sends(rt: HostRuntime) -> Result<(), Fail> {
+    let offer = queued(7)?;
     let mut node = follower(rt.alloc())?;
-    node.offer(queued(7)?)?;
+    node.offer(offer)?;
     let commit = Burst {
         from: 200,
         ticks: 40,
@@ -238,9 +239,10 @@ fn frame_in_hold_is_jammed_where_another_node_sends(rt: HostRuntime) -> Result<(
 
 #[test]
 fn full_ring_refuses_an_offer(rt: HostRuntime) -> Result<(), Fail> {
+    let (first, second) = (queued(1)?, queued(2)?);
     let mut node = follower(rt.alloc())?;
-    node.offer(queued(1)?)?;
-    let refused = node.offer(queued(2)?);
+    node.offer(first)?;
+    let refused = node.offer(second);
     assert_eq!(rt; refused.map_err(|back| back.number), Err(2));
     Ok(())
 }
@@ -279,7 +281,7 @@ fn any_signal_in_a_drive_clashes(rt: HostRuntime) -> Result<(), Fail> {
     Ok(())
 }
 
-/// No burst behind the first beacon.
+/// No burst after the first beacon.
 const FIRST_BEACON: Burst = Burst {
     from: 0,
     ticks: 0,

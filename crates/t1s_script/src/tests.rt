@@ -109,9 +109,13 @@ fn lines_are_refused_for_their_first_reason(rt: HostRuntime) {
             ("t1s 1\nlate 0\n", 2, ScriptReason::Form),
         ],
     );
+}
+
+#[test]
+fn lines_are_refused_for_their_numbers(rt: HostRuntime) {
     check_refused(
         &rt,
-        alloc,
+        rt.alloc(),
         &[
             ("t1s 1\nto 032\n", 2, ScriptReason::Number),
             ("t1s 1\ncount 3\r\n", 2, ScriptReason::Number),
@@ -126,10 +130,9 @@ fn lines_are_refused_for_their_first_reason(rt: HostRuntime) {
 
 #[test]
 fn lines_are_refused_for_the_lines_before_them(rt: HostRuntime) {
-    let alloc = rt.alloc();
     check_refused(
         &rt,
-        alloc,
+        rt.alloc(),
         &[
             ("t1s 1\nto 40\nto 40\n", 3, ScriptReason::Twice),
             ("t1s 1\nseed 1\nroom 8\nseed 1\n", 4, ScriptReason::Twice),
@@ -151,9 +154,13 @@ fn lines_are_refused_for_the_lines_before_them(rt: HostRuntime) {
             ),
         ],
     );
+}
+
+#[test]
+fn scripts_without_a_node_or_an_end_are_refused(rt: HostRuntime) {
     check_refused(
         &rt,
-        alloc,
+        rt.alloc(),
         &[
             ("t1s 1\nend 10\n", 2, ScriptReason::NoNode),
             ("t1s 1", 2, ScriptReason::NoEnd),

@@ -5,7 +5,8 @@ use Rattle.std.specs.List.{flat_map}
 use Rattle.std.proofs.lemmas.Bool.{cases_lt, eqb-true, ltb-true, and_parts}
 use Rattle.std.proofs.lemmas.List.Elements.{All-head}
 use Rattle.t1s_symbols.specs.declared.Symbol.{Symbol}
-use Rattle.t1s_symbols.specs.Groups.{group, group_in, group_table, same_symbol}
+use Rattle.t1s_symbols.specs.GroupTable.{group, group_in, group_table}
+use Rattle.t1s_symbols.specs.Symbols.{same_symbol}
 use Rattle.t1s_grammar.specs.Prefixes.{beginning_symbols}
 use Rattle.t1s_capture.specs.declared.items.Why.{Why}
 use Rattle.t1s_capture.specs.declared.items.Why.TheVariants.{Magic as BadMagic, Version as BadVersion, NodeByte, Group, Place, AfterEnd, TooLong}

@@ -5,13 +5,12 @@ use Rattle.std.specs.List.{flat_map}
 use Rattle.std.proofs.lemmas.Bool.{eqb-true, eq-eqb, and_parts}
 use Rattle.std.proofs.lemmas.List.{append-nil}
 use Rattle.t1s_symbols.specs.declared.Symbol.{Symbol}
-use Rattle.t1s_symbols.specs.declared.Symbol.TheVariants.{Nibble, J, K, T, R, H, N, S}
 use Rattle.t1s_symbols.specs.declared.Quarter.{Quarter}
 use Rattle.t1s_symbols.specs.declared.Heard.{Heard}
 use Rattle.t1s_symbols.specs.declared.Heard.TheVariants.{Nothing, One, Many}
-use Rattle.t1s_symbols.specs.Groups.{same_symbol}
+use Rattle.t1s_symbols.specs.Symbols.{same_symbol}
 use Rattle.t1s_symbols.specs.Ranges.{IsSymbol}
-use Rattle.t1s_symbols.proofs.Pairs.{same_symbol-sound}
+use Rattle.t1s_symbols.proofs.Quarters.{same_symbol-refl, same_symbol-sound}
 use Rattle.t1s_grammar.specs.Burst.{IsBurst, BeginsBurst}
 use Rattle.t1s_grammar.specs.Prefixes.{Beginning, beginning_symbols, IsBeginning, phase_of}
 use Rattle.t1s_grammar.specs.Steps.{place_step, ends_burst}
@@ -28,16 +27,6 @@ use Rattle.t1s_capture.proofs.Cuts.{goes_same}
 use Rattle.t1s_capture.proofs.CutItems.{quarter_symbol, symbol_read, read_begins, nothing_begun}
 
 -- ---- one symbol
-
-same_symbol-refl : (s : Symbol) → same_symbol s s ≡ true
-same_symbol-refl (Nibble n) = eq-eqb n n refl
-same_symbol-refl J = refl
-same_symbol-refl K = refl
-same_symbol-refl T = refl
-same_symbol-refl R = refl
-same_symbol-refl H = refl
-same_symbol-refl N = refl
-same_symbol-refl S = refl
 
 -- the symbol whose parts four ticks are
 abbrev pub symbol_in : Tick → Tick → Tick → Tick → Option Symbol

@@ -15,7 +15,8 @@ use Rattle.t1s_capture.specs.declared.row.RowSoFar.{RowSoFar}
 use Rattle.t1s_capture.specs.declared.row.RowSoFar.TheVariants.{Empty, Silent, Reading, Torn}
 use Rattle.t1s_capture.specs.Captures.{CaptureItem, Gap, Burst, Torn as TornBurst, no_symbols, symbol_count, symbol_octets, item_octets, count_octets, header, capture_text}
 use Rattle.t1s_capture.specs.Cut.{Tick, is_silent, AreSilent, IsRow, quarter_of, read_on, burst_or_torn, row_items, goes_on, cut_from, cut}
-use Rattle.t1s_capture.specs.Writing.{Step, reading, ticks_begun, follows, symbol_ends, reading_step, nothing_read, blur_octets, row_end, sound_step, silent_step, row_step, row_from, row_after, IsKind, RowIsKind, WriterState, Writes}
+use Rattle.t1s_symbols.specs.Quarters.{continues_last}
+use Rattle.t1s_capture.specs.Writing.{Step, reading, ticks_begun, symbol_ends, reading_step, nothing_read, blur_octets, row_end, sound_step, silent_step, row_step, row_from, row_after, IsKind, RowIsKind, WriterState, Writes}
 use Rattle.t1s_capture.proofs.Rows.{end_octets, ReadsTo, row_reads, silent_from, started, partway, first_tick}
 
 -- ---- the text of a row
@@ -95,7 +96,7 @@ started_kind place (Some q) = by_test (q.part == 0)
 
 reading_kind : (r : ReadingSoFar) (o : Option Quarter) → IsKind false (reading_step r o).0
 reading_kind r None = tt
-reading_kind r (Some q) = by_test (follows r.last q) (q.part == 3) (place_step r.place q.sym)
+reading_kind r (Some q) = by_test (continues_last r.last q) (q.part == 3) (place_step r.place q.sym)
   where
     by_test : (a b : Bool) (p : Result Phase PlaceFault) →
         IsKind false (if a then (if b then symbol_ends q.sym p else (reading r.place (Some q), [])) else (Torn (ticks_begun r.last + 1), [])).0

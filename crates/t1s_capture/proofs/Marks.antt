@@ -3,7 +3,7 @@ use Rattle.std.proofs.Common.{◌≡◌, ◌≢◌, ℕ, Bool, true, false, Opti
 use Rattle.std.specs.Prelude.{◌==◌, if◌then◌else◌}
 use Rattle.std.proofs.lemmas.Bool.{eqb-true, eqb-false}
 use Rattle.t1s_symbols.specs.declared.Symbol.{Symbol}
-use Rattle.t1s_symbols.specs.Groups.{group, symbol}
+use Rattle.t1s_symbols.specs.GroupTable.{group, symbol}
 use Rattle.t1s_symbols.specs.Ranges.{IsSymbol}
 use Rattle.t1s_symbols.proofs.Pairs.{group-symbol, symbol-group, symbol-in_range}
 use Rattle.t1s_capture.specs.declared.stage.Mark.{Mark}

@@ -3,7 +3,7 @@ use Rattle.std.proofs.Common.{◌≡◌, ◌≢◌, ℕ, zero, suc, ◌+◌, ◌
 use Rattle.std.specs.Prelude.{◌==◌, ◌&&◌, slice_index}
 use Rattle.std.proofs.lemmas.Bool.{eqb-true, eqb-false, and_parts}
 use Rattle.t1s_symbols.specs.declared.Symbol.{Symbol}
-use Rattle.t1s_symbols.specs.Groups.{symbol}
+use Rattle.t1s_symbols.specs.GroupTable.{symbol}
 use Rattle.t1s_grammar.specs.Prefixes.{Beginning, beginning_symbols, phase_of, IsTooLong}
 use Rattle.t1s_grammar.specs.Steps.{place_step, ends_burst}
 use Rattle.t1s_grammar.specs.declared.place.Phase.{Phase}

@@ -5,8 +5,9 @@ use Rattle.std.proofs.lemmas.Bool.{eqb-true, ne_eqb}
 use Rattle.std.proofs.lemmas.List.{append-nil, map-append}
 use Rattle.t1s_symbols.specs.declared.Symbol.{Symbol}
 use Rattle.t1s_symbols.specs.declared.Quarter.{Quarter}
-use Rattle.t1s_symbols.specs.Groups.{group, same_symbol}
-use Rattle.t1s_symbols.proofs.Pairs.{same_symbol-sound}
+use Rattle.t1s_symbols.specs.GroupTable.{group}
+use Rattle.t1s_symbols.specs.Symbols.{same_symbol}
+use Rattle.t1s_symbols.proofs.Quarters.{continues-partial, same_symbol-sound}
 use Rattle.t1s_grammar.specs.Prefixes.{Beginning, beginning_symbols, phase_of}
 use Rattle.t1s_grammar.specs.Steps.{place_step, ends_burst}
 use Rattle.t1s_grammar.specs.declared.place.Phase.{Phase}
@@ -71,7 +72,9 @@ next_quarter : (place : Phase) (fine : Bool) (s : Symbol) (k n : ℕ) (o : Optio
 next_quarter place false s k n o e lt = ap (λ (m : ℕ). (Torn (m + 1), [])) (sym e)
 next_quarter place true s k n None e lt = ap (λ (m : ℕ). (Torn (m + 1), [])) (sym e)
 next_quarter place true s k n (Some q) e lt =
-    ap (λ (m : ℕ). if same_symbol s q.sym && (q.part == m) then (if q.part == 3 then symbol_ends q.sym (place_step place q.sym) else (reading place (Some q), [])) else (Torn (m + 1), [])) (sym e)
+    ap (λ (b : Bool). if b then (if q.part == 3 then symbol_ends q.sym (place_step place q.sym) else (reading place (Some q), [])) else (Torn (k + 1 + 1), []))
+    (continues-partial s k q (omega arith))
+    ∙ ap (λ (m : ℕ). if same_symbol s q.sym && (q.part == m) then (if q.part == 3 then symbol_ends q.sym (place_step place q.sym) else (reading place (Some q), [])) else (Torn (m + 1), [])) (sym e)
     ∙ by_test (same_symbol s q.sym) (q.part == n) refl refl
   where
     by_test : (a b : Bool) → same_symbol s q.sym ≡ a → (q.part == n) ≡ b →
@@ -92,7 +95,10 @@ last_quarter : (place : Phase) (fine : Bool) (s : Symbol) (o : Option Quarter) �
     sound_step (partway place fine s 2) o ≡ (if fine && is_part s 3 o then symbol_ends s (place_step place s) else (Torn 4, []))
 last_quarter place false s o = refl
 last_quarter place true s None = refl
-last_quarter place true s (Some q) = by_test (same_symbol s q.sym) (q.part == 3) refl refl
+last_quarter place true s (Some q) =
+    ap (λ (b : Bool). if b then (if q.part == 3 then symbol_ends q.sym (place_step place q.sym) else (reading place (Some q), [])) else (Torn 4, []))
+    (continues-partial s 2 q (omega arith))
+    ∙ by_test (same_symbol s q.sym) (q.part == 3) refl refl
   where
     by_test : (a b : Bool) → same_symbol s q.sym ≡ a → (q.part == 3) ≡ b →
         (if a && b then (if b then symbol_ends q.sym (place_step place q.sym) else (reading place (Some q), [])) else (Torn 4, []))

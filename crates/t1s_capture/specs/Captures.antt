@@ -1,7 +1,7 @@
 -- What a capture is: the items that a node heard, and the octets that they are written as.
 use Rattle.std.specs.Prelude.{◌≡◌, ◌≢◌, ℕ, ◌*◌, ◌+◌, ◌/◌, ◌%◌, ◌^◌, ◌<◌, ◌≤◌, ◌⊎◌, Bool, true, false, List, [], ◌∷◌, ◌++◌, length, map, sum_by, All}
 use Rattle.std.specs.List.{flat_map}
-use Rattle.t1s_symbols.specs.Groups.{group}
+use Rattle.t1s_symbols.specs.GroupTable.{group}
 use Rattle.t1s_grammar.specs.Burst.{IsBurst}
 use Rattle.t1s_grammar.specs.Prefixes.{Beginning, beginning_symbols, IsBeginning, between}
 

@@ -4,7 +4,7 @@ use Rattle.t1s_symbols.specs.declared.Symbol.{Symbol}
 use Rattle.t1s_symbols.specs.declared.Quarter.{Quarter}
 use Rattle.t1s_symbols.specs.declared.Heard.{Heard}
 use Rattle.t1s_symbols.specs.declared.Heard.TheVariants.{Nothing, One, Many}
-use Rattle.t1s_symbols.specs.Groups.{same_symbol}
+use Rattle.t1s_symbols.specs.Symbols.{same_symbol}
 use Rattle.t1s_symbols.specs.Ranges.{IsHeard}
 use Rattle.t1s_grammar.specs.Prefixes.{Beginning, phase_of}
 use Rattle.t1s_grammar.specs.Steps.{place_step, ends_burst}

@@ -1,6 +1,6 @@
 -- Where octets stop being a capture, and why.
 use Rattle.std.specs.Prelude.{◌≡◌, ◌≢◌, ℕ, ◌+◌, ◌^◌, ◌<◌, ◌≤◌, ◌⊎◌, List, [], ◌∷◌, ◌++◌, length, take, slice_index, None, Some}
-use Rattle.t1s_symbols.specs.Groups.{symbol}
+use Rattle.t1s_symbols.specs.GroupTable.{symbol}
 use Rattle.t1s_symbols.specs.declared.Symbol.{Symbol}
 use Rattle.t1s_grammar.specs.Prefixes.{Beginning, beginning_symbols, IsTooLong}
 use Rattle.t1s_capture.specs.declared.items.Why.{Why}

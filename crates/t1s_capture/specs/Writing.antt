@@ -3,7 +3,8 @@ use Rattle.std.specs.Prelude.{◌≡◌, ℕ, ◌+◌, ◌≤◌, ◌==◌, ◌&
 use Rattle.std.specs.List.{flat_map}
 use Rattle.t1s_symbols.specs.declared.Symbol.{Symbol}
 use Rattle.t1s_symbols.specs.declared.Quarter.{Quarter}
-use Rattle.t1s_symbols.specs.Groups.{group, same_symbol}
+use Rattle.t1s_symbols.specs.GroupTable.{group}
+use Rattle.t1s_symbols.specs.Quarters.{continues_last}
 use Rattle.t1s_grammar.specs.Steps.{start_phase, place_step, ends_burst}
 use Rattle.t1s_grammar.specs.declared.place.Phase.{Phase}
 use Rattle.t1s_grammar.specs.declared.place.PlaceFault.{PlaceFault}
@@ -25,11 +26,6 @@ abbrev pub ticks_begun : Option Quarter → ℕ
 ticks_begun None = 0
 ticks_begun (Some q) = q.part + 1
 
--- whether a quarter goes on behind the last one of its symbol, or begins a symbol
-abbrev pub follows : Option Quarter → Quarter → Bool
-follows None q = q.part == 0
-follows (Some p) q = same_symbol p.sym q.sym && (q.part == p.part + 1)
-
 -- a symbol is complete
 abbrev pub symbol_ends : Symbol → Result Phase PlaceFault → Step
 symbol_ends s (Ok place) = (reading place None, group s ∷ [])
@@ -37,7 +33,7 @@ symbol_ends s (Err fault) = (Torn 4, [])
 
 abbrev pub quarter_step : ReadingSoFar → Quarter → Step
 quarter_step r q =
-    if follows r.last q then (if q.part == 3 then symbol_ends q.sym (place_step r.place q.sym) else (reading r.place (Some q), []))
+    if continues_last r.last q then (if q.part == 3 then symbol_ends q.sym (place_step r.place q.sym) else (reading r.place (Some q), []))
     else (Torn (ticks_begun r.last + 1), [])
 
 abbrev pub reading_step : ReadingSoFar → Option Quarter → Step

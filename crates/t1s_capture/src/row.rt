@@ -3,15 +3,13 @@ ghost use Rattle.std.specs.Prelude.{◌≡◌, ◌≤◌, ◌+◌, ◌<◌, ◌�
 ghost use Rattle.t1s_symbols.specs.Ranges.{IsSymbol, IsQuarter};
 ghost use Rattle.t1s_grammar.specs.Steps.{place_step};
 ghost use Rattle.t1s_capture.specs.Captures.{count_octets};
-ghost use Rattle.t1s_capture.specs.Writing.{reading_step, quarter_step, symbol_ends, follows, ticks_begun, nothing_read, reading_end, row_end, sound_step, silent_step, RowFits};
+ghost use Rattle.t1s_capture.specs.Writing.{reading_step, quarter_step, symbol_ends, ticks_begun, nothing_read, reading_end, row_end, sound_step, silent_step, RowFits};
 
 use crate::format::{GAP, TORN};
 use crate::octets::Octets;
 use t1s_grammar::Place;
-use t1s_symbols::{Quarter, Symbol, group_of, same_symbol};
+use t1s_symbols::{Quarter, QuarterReading, Symbol, group_of};
 
-/// The last part of a symbol.
-const LAST_PART: u8 = 3;
 /// The ticks of a symbol.
 const SYMBOL_TICKS: u32 = 4;
 
@@ -48,18 +46,6 @@ fn ticks_begun(last: Option<Quarter>) -> u32
     }
 }
 
-/// Whether a quarter goes on behind the last one of its symbol, or begins a symbol.
-fn follows(last: Option<Quarter>, quarter: Quarter) -> bool
-    ensures { result ≡ follows last quarter }
-{
-    match last {
-        None => quarter.part == 0,
-        Some(before) => {
-            same_symbol(before.sym, quarter.sym) && quarter.part as u32 == before.part as u32 + 1
-        }
-    }
-}
-
 impl ReadingSoFar {
     /// Nothing is read yet.
     fn start() -> ReadingSoFar
@@ -88,18 +74,18 @@ impl ReadingSoFar {
         ensures step { result ≡ quarter_step self quarter }
         ensures fits { (ticks : ℕ) → RowFits ticks result.0 }
     {
-        if !follows(self.last, quarter) {
-            return (RowSoFar::Torn(ticks_begun(self.last) + 1), Octets::new());
+        let ReadingSoFar { place, last } = self;
+        match quarter.reading(last) {
+            QuarterReading::Broken => (RowSoFar::Torn(ticks_begun(last) + 1), Octets::new()),
+            QuarterReading::Complete => symbol_ends(place, quarter.sym),
+            QuarterReading::Partial => {
+                let reading = ReadingSoFar {
+                    place,
+                    last: Some(quarter),
+                };
+                (RowSoFar::Reading(reading), Octets::new())
+            }
         }
-        let ReadingSoFar { place, .. } = self;
-        if quarter.part == LAST_PART {
-            return symbol_ends(place, quarter.sym);
-        }
-        let reading = ReadingSoFar {
-            place,
-            last: Some(quarter),
-        };
-        (RowSoFar::Reading(reading), Octets::new())
     }
 
     /// What the end of the row gives out.

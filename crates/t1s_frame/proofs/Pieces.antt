@@ -14,7 +14,7 @@ use Rattle.t1s_frame.specs.Laws.{GoodExactlyForFrames}
 use Rattle.t1s_frame.specs.declared.arrivals.Arrival.TheVariants.{Good, BadFcs, Odd, Runt, NoSfd}
 
 -- ---- octets and nibbles
-octets_of-nibbles_of : (xs : List ℕ) → octets_of (nibbles_of xs) ≡ xs
+pub octets_of-nibbles_of : (xs : List ℕ) → octets_of (nibbles_of xs) ≡ xs
 octets_of-nibbles_of [] = refl
 octets_of-nibbles_of (x ∷ xs) =
     let whole : x % 16 + 16 * (x / 16) ≡ x = omega arith in rw (whole, octets_of-nibbles_of xs) refl

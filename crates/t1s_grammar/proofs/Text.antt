@@ -2,7 +2,7 @@
 use Rattle.std.proofs.Common.{◌≡◌, ℕ, ◌+◌, ◌-◌, ◌<◌, ◌≤◌, Bool, List, [], ◌∷◌, ◌++◌, Some, length, take, get_or, map, slice_get, sym, ap, ◌∙◌, arith, length-drop}
 use Rattle.std.proofs.lemmas.List.{map-append, take_more, get_or-drop, append-nil}
 use Rattle.std.proofs.lemmas.Option.{get_or_from_slice_get}
-use Rattle.t1s_symbols.specs.Groups.{group}
+use Rattle.t1s_symbols.specs.GroupTable.{group}
 use Rattle.t1s_symbols.specs.declared.Symbol.TheVariants.{Nibble}
 use Rattle.t1s_scramble.specs.Scrambled.{scrambled_nibble, scrambled_nibbles, scrambler_after}
 use Rattle.t1s_scramble.proofs.Nibbles.{scrambled_nibbles-push, scrambled_nibbles-nil}

@@ -1,6 +1,6 @@
 -- The piece that carries a frame.
 use Rattle.std.specs.Prelude.{ℕ, Bool, List, drop, map, if◌then◌else◌}
-use Rattle.t1s_symbols.specs.Groups.{group}
+use Rattle.t1s_symbols.specs.GroupTable.{group}
 use Rattle.t1s_symbols.specs.declared.Symbol.{Symbol}
 use Rattle.t1s_symbols.specs.declared.Symbol.TheVariants.{K, R}
 use Rattle.t1s_scramble.specs.Scrambled.{scrambled_nibbles}

@@ -1,7 +1,7 @@
 //! A piece as text of the line: one group an octet.
 ghost use Rattle.std.specs.Prelude.{◌≡◌, ◌↔◌, ◌+◌, ◌<◌, ◌≤◌, List, [], ◌∷◌, ◌++◌, length, map, replicate, OnOk, OnErr};
 ghost use Rattle.arrayvec.specs.ArrayVec.{array_vec_len};
-ghost use Rattle.t1s_symbols.specs.Groups.{group};
+ghost use Rattle.t1s_symbols.specs.GroupTable.{group};
 ghost use Rattle.t1s_symbols.specs.Ranges.{IsSymbol};
 ghost use Rattle.t1s_symbols.specs.declared.Symbol.TheVariants.{Nibble, J, H, T};
 ghost use Rattle.t1s_scramble.specs.Scrambled.{scrambled_nibble, scrambled_nibbles, scrambler_after};

@@ -1,30 +1,20 @@
 -- The view of a piece that stands for a frame.
-use Rattle.std.proofs.Common.{◌≡◌, refl, ℕ, ◌+◌, ◌*◌, ◌/◌, ◌%◌, ◌<◌, ◌≤◌, Bool, List, [], ◌∷◌, length, drop, ap, ◌∙◌, arith}
+use Rattle.std.proofs.Common.{◌≡◌, refl, ℕ, ◌+◌, ◌*◌, ◌<◌, ◌≤◌, Bool, List, length, drop, ap, ◌∙◌, arith}
 use Rattle.std.specs.Prelude.{All}
 use Rattle.std.proofs.lemmas.List.Elements.{All-drop}
 use Rattle.t1s_scramble.specs.Scrambled.{descrambled_nibbles}
 use Rattle.t1s_scramble.proofs.Nibbles.{descrambled_nibbles-below}
-use Rattle.t1s_frame.specs.Frame.{IsFrame, nibbles_of}
+use Rattle.t1s_frame.specs.Frame.{IsFrame}
 use Rattle.t1s_frame.specs.Arrivals.{arrival_of, octets_of}
 use Rattle.t1s_frame.specs.declared.arrivals.Arrival.TheVariants.{Good as WholeFrame}
-use Rattle.t1s_frame.proofs.Pieces.{good_exactly_for_frames}
+use Rattle.t1s_frame.proofs.Nibbles.{length-nibbles_of}
+use Rattle.t1s_frame.proofs.Pieces.{good_exactly_for_frames, octets_of-nibbles_of}
 use Rattle.t1s_grammar.specs.Burst.{Piece}
 use Rattle.t1s_grammar.specs.Reading.{StandsForFrame, heard_nibbles}
 use Rattle.t1s_pcs_rx.specs.declared.piece.Closer.TheVariants.{R}
 use Rattle.t1s_pcs_rx.specs.declared.piece.Kind.TheVariants.{Good}
 use Rattle.t1s_pcs_rx.specs.Views.{closer_of, view_by}
 use Rattle.t1s_pcs_rx.specs.Laws.{FramesAreShown}
-
-length-nibbles_of : (xs : List ℕ) → length (nibbles_of xs) ≡ 2 * length xs
-length-nibbles_of [] = refl
-length-nibbles_of (x ∷ xs) = omega (arith, length-nibbles_of xs)
-
-octets_of-nibbles_of : (xs : List ℕ) → octets_of (nibbles_of xs) ≡ xs
-octets_of-nibbles_of [] = refl
-octets_of-nibbles_of (x ∷ xs) =
-    let here : x % 16 + 16 * (x / 16) ≡ x = omega arith in
-    let rest : octets_of (nibbles_of xs) ≡ xs = octets_of-nibbles_of xs in
-    cc
 
 -- the heard nibbles of a frame are Good
 frame-good : (past : List Bool) (piece : Piece) (octets : List ℕ) → IsFrame octets → StandsForFrame past piece octets

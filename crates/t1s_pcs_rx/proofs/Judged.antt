@@ -3,13 +3,14 @@ use Rattle.std.proofs.Common.{◌≡◌, refl, Bool, true, ◌∙◌}
 use Rattle.std.specs.Prelude.{Result, Ok, Err, Option}
 use Rattle.t1s_symbols.specs.declared.Quarter.{Quarter}
 use Rattle.t1s_symbols.specs.declared.Class.{Class}
+use Rattle.t1s_symbols.specs.Quarters.{continues_last}
 use Rattle.t1s_grammar.specs.declared.place.Phase.{Phase}
 use Rattle.t1s_grammar.specs.declared.place.PlaceFault.{PlaceFault}
 use Rattle.t1s_grammar.specs.Steps.{place_step}
 use Rattle.t1s_pcs_rx.specs.declared.reader.Burst.{Burst}
 use Rattle.t1s_pcs_rx.specs.declared.reader.Burst.TheVariants.{Reading, Ended}
 use Rattle.t1s_pcs_rx.specs.Receiver.{Receiver}
-use Rattle.t1s_pcs_rx.specs.Receive.{class_after, continues_last, judged, quarter_from}
+use Rattle.t1s_pcs_rx.specs.Receive.{class_after, judged, quarter_from}
 
 -- what is judged counts on the history and the kept nibbles alone
 judged-same : (r : Receiver) (q : Quarter) (class here : Class) (there : Burst) (place : Phase) (j : Result Phase PlaceFault)

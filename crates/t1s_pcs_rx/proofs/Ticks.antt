@@ -1,13 +1,12 @@
 -- The ticks of a symbol, while a burst is read.
-use Rattle.std.proofs.Common.{◌≡◌, refl, ℕ, Bool, true, false, List, [], ◌∷◌, ◌++◌, sym, ap, ◌∙◌, arith, append_assoc}
+use Rattle.std.proofs.Common.{◌≡◌, refl, ℕ, Bool, false, List, [], ◌∷◌, ◌++◌, sym, ap, ◌∙◌, append_assoc}
 use Rattle.std.specs.Prelude.{Option, Some, None, Ok}
 use Rattle.t1s_symbols.specs.declared.Quarter.{Quarter}
 use Rattle.t1s_symbols.specs.declared.Class.{Class}
 use Rattle.t1s_symbols.specs.declared.Heard.{Heard}
 use Rattle.t1s_symbols.specs.declared.Heard.TheVariants.{One}
 use Rattle.t1s_symbols.specs.declared.Symbol.{Symbol}
-use Rattle.t1s_symbols.specs.declared.Symbol.TheVariants.{Nibble, J, K, T, R, H, N, S}
-use Rattle.t1s_symbols.specs.Groups.{same_symbol}
+use Rattle.t1s_symbols.proofs.Quarters.{same_symbol-refl}
 use Rattle.t1s_grammar.specs.declared.place.Phase.{Phase}
 use Rattle.t1s_grammar.specs.Steps.{place_step, lead_at, nibbles_at}
 use Rattle.t1s_pcs_rx.specs.declared.reader.Burst.TheVariants.{Reading}
@@ -40,16 +39,6 @@ pub record At (r : Receiver) (place : Phase) (past : List Bool) (kept : List ℕ
   pub fresh : Bool
   pub is : r ≡ reading class (last_of last) fresh place past kept
 
-same_symbol-self : (s : Symbol) → same_symbol s s ≡ true
-same_symbol-self (Nibble n) = grind arith
-same_symbol-self J = refl
-same_symbol-self K = refl
-same_symbol-self T = refl
-same_symbol-self R = refl
-same_symbol-self H = refl
-same_symbol-self N = refl
-same_symbol-self S = refl
-
 pub tick : (r next : Receiver) (h : Heard) (end : Option PieceEnd) (hs : List Heard)
     → closing_in r h false ≡ end → receive_step r h false ≡ next
     → events_heard r (h ∷ hs) ≡ view_closed r.nibbles end ∷ events_heard next hs
@@ -72,32 +61,32 @@ module _ (class : Class) (fresh : Bool) (place : Phase) (past : List Bool) (kept
   step-1 : receive_step (reading class (Some (quarter s 0)) fresh place past kept) (One (quarter s 1)) false
       ≡ reading class (Some (quarter s 1)) fresh place past kept
   unfolding receive_step
-  step-1 = rw (same_symbol-self s) refl
+  step-1 = rw (same_symbol-refl s) refl
 
   none-1 : closing_in (reading class (Some (quarter s 0)) fresh place past kept) (One (quarter s 1)) false ≡ None
   unfolding closing_in
-  none-1 = rw (same_symbol-self s) refl
+  none-1 = rw (same_symbol-refl s) refl
 
   step-2 : receive_step (reading class (Some (quarter s 1)) fresh place past kept) (One (quarter s 2)) false
       ≡ reading class (Some (quarter s 2)) fresh place past kept
   unfolding receive_step
-  step-2 = rw (same_symbol-self s) refl
+  step-2 = rw (same_symbol-refl s) refl
 
   none-2 : closing_in (reading class (Some (quarter s 1)) fresh place past kept) (One (quarter s 2)) false ≡ None
   unfolding closing_in
-  none-2 = rw (same_symbol-self s) refl
+  none-2 = rw (same_symbol-refl s) refl
 
   step-3 : (next : Phase) → place_step place s ≡ Ok next
       → receive_step (reading class (Some (quarter s 2)) fresh place past kept) (One (quarter s 3)) false
       ≡ reading (class_after class fresh s) (Some (quarter s 3)) false next (history_after past s) (nibbles_after (nibbles_at place) past kept s)
   unfolding receive_step
-  step-3 next e = rw (same_symbol-self s, e) refl
+  step-3 next e = rw (same_symbol-refl s, e) refl
 
   end-3 : (next : Phase) → place_step place s ≡ Ok next
       → closing_in (reading class (Some (quarter s 2)) fresh place past kept) (One (quarter s 3)) false
       ≡ closed_by (lead_at place) (nibbles_at place) s
   unfolding closing_in
-  end-3 next e = rw (same_symbol-self s, e) refl
+  end-3 next e = rw (same_symbol-refl s, e) refl
 
 -- what is heard leads from one place to another, with these events
 pub record Goes (r : Receiver) (hs : List Heard) (events : List (Option View)) (place : Phase) (past : List Bool) (kept : List ℕ) : Type 0 where

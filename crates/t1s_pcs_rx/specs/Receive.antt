@@ -1,5 +1,5 @@
 -- What a receiver makes of one tick: the class, the reading of a burst, and its pieces.
-use Rattle.std.specs.Prelude.{ℕ, ◌+◌, Bool, true, false, ◌&&◌, ◌||◌, ◌==◌, nat_lt, List, [], ◌∷◌, ◌++◌, Option, Some, None, Result, Ok, Err, if◌then◌else◌}
+use Rattle.std.specs.Prelude.{ℕ, Bool, true, false, ◌&&◌, ◌==◌, nat_lt, List, [], ◌∷◌, ◌++◌, Option, Some, None, Result, Ok, Err, if◌then◌else◌}
 use Rattle.t1s_symbols.specs.declared.Quarter.{Quarter}
 use Rattle.t1s_symbols.specs.declared.Heard.{Heard}
 use Rattle.t1s_symbols.specs.declared.Heard.TheVariants.{Nothing, One, Many}
@@ -7,7 +7,7 @@ use Rattle.t1s_symbols.specs.declared.Symbol.{Symbol}
 use Rattle.t1s_symbols.specs.declared.Symbol.TheVariants.{Nibble, J, K as Bad, R as Fine, H, N, S as Cut}
 use Rattle.t1s_symbols.specs.declared.Class.{Class}
 use Rattle.t1s_symbols.specs.declared.Class.TheVariants.{None as Unread, Beacon, Run, Other}
-use Rattle.t1s_symbols.specs.Groups.{same_symbol}
+use Rattle.t1s_symbols.specs.Quarters.{continues_last}
 use Rattle.t1s_scramble.specs.Scrambled.{descrambled_nibble, descrambler_after}
 use Rattle.t1s_grammar.specs.declared.place.Phase.{Phase}
 use Rattle.t1s_grammar.specs.declared.place.PlaceFault.{PlaceFault}
@@ -26,16 +26,6 @@ abbrev pub counted : Heard → Bool → Heard
 counted Nothing own = Nothing
 counted (One q) own = if own then Many else One q
 counted Many own = Many
-
--- a quarter continues the one before where it is the next part of the same symbol, or part 0 of any symbol after
--- a part 3
-abbrev pub continues : Quarter → Quarter → Bool
-continues p q = ((q.part == (p.part + 1)) && same_symbol p.sym q.sym) || ((p.part == 3) && (q.part == 0))
-
--- the first quarter of a burst has to be a part 0
-abbrev pub continues_last : Option Quarter → Quarter → Bool
-continues_last None q = q.part == 0
-continues_last (Some p) q = continues p q
 
 -- ---- the class
 

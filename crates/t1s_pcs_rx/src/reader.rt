@@ -2,7 +2,7 @@
 ghost use Rattle.std.specs.Prelude.{◌≡◌, ◌<◌, ◌≤◌, length, All, IfSome, IsTrue};
 ghost use Rattle.t1s_symbols.specs.Ranges.{IsHeard, IsQuarter, IsSymbol};
 ghost use Rattle.t1s_pcs_rx.specs.Receiver.{Receiver, receive_start};
-ghost use Rattle.t1s_pcs_rx.specs.Receive.{class_after, class_at_end, class_in, class_of, closed_by, closing_at, closing_by, closing_from, closing_in, continues, continues_last, counted, ended, entered, heard_by, history_after, judged, nibbles_after, quarter_heard, receive_step};
+ghost use Rattle.t1s_pcs_rx.specs.Receive.{class_after, class_at_end, class_in, class_of, closed_by, closing_at, closing_by, closing_from, closing_in, counted, ended, entered, heard_by, history_after, judged, nibbles_after, quarter_heard, receive_step};
 ghost use Rattle.t1s_pcs_rx.specs.Ranges.{kept_at, HasRoom};
 ghost use Rattle.t1s_pcs_rx.specs.declared.reader.Burst.TheVariants.{Ended};
 ghost use Rattle.t1s_grammar.specs.Steps.{place_step};
@@ -13,10 +13,7 @@ use std::marker::Model;
 use std::mem;
 use t1s_grammar::Place;
 use t1s_scramble::Descrambler;
-use t1s_symbols::{Class, Heard, Quarter, Symbol, same_symbol};
-
-/// The part of a quarter that completes its symbol.
-const LAST_PART: u8 = 3;
+use t1s_symbols::{Class, Heard, Quarter, QuarterReading, Symbol};
 
 /// The nibbles of a piece that are not kept: the descrambler finds its step in them.
 const NOT_KEPT: u16 = 9;
@@ -173,22 +170,24 @@ impl Reader {
         ensures kept { IfSome result (λ _. self.new.nibbles ≡ self.old.nibbles) }
     {
         match mem::replace(&mut self.burst, Burst::Ended) {
-            Burst::Reading { last, fresh, place } => {
-                if !continues_last(last, quarter) {
+            Burst::Reading { last, fresh, place } => match quarter.reading(last) {
+                QuarterReading::Broken => {
                     self.class = class_at_end(self.class, own);
-                    return None;
+                    None
                 }
-                if quarter.part != LAST_PART {
+                QuarterReading::Partial => {
                     self.burst = Burst::Reading {
                         last: Some(quarter),
                         fresh,
                         place,
                     };
-                    return None;
+                    None
                 }
-                self.class = class_after(self.class, fresh, quarter.sym);
-                self.judge(place, quarter)
-            }
+                QuarterReading::Complete => {
+                    self.class = class_after(self.class, fresh, quarter.sym);
+                    self.judge(place, quarter)
+                }
+            },
             burst => {
                 self.burst = burst;
                 None
@@ -244,25 +243,6 @@ fn counted(heard: Heard, own: bool) -> Heard
             }
         }
         Heard::Many => Heard::Many,
-    }
-}
-
-/// Whether a quarter continues the one before.
-fn continues(before: Quarter, quarter: Quarter) -> bool
-    ensures { result ≡ continues before quarter }
-{
-    let next_part = u16::from(quarter.part) == u16::from(before.part) + 1;
-    (next_part && same_symbol(before.sym, quarter.sym))
-        || (before.part == LAST_PART && quarter.part == 0)
-}
-
-/// Whether a quarter may follow: the first one of a burst is part 0.
-fn continues_last(last: Option<Quarter>, quarter: Quarter) -> bool
-    ensures { result ≡ continues_last last quarter }
-{
-    match last {
-        None => quarter.part == 0,
-        Some(before) => continues(before, quarter),
     }
 }
 

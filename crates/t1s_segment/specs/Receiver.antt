@@ -7,7 +7,7 @@ use Rattle.t1s_symbols.specs.declared.Symbol.{Symbol}
 use Rattle.t1s_symbols.specs.declared.Symbol.TheVariants.{Nibble, J, K, T, R, H, N, S}
 use Rattle.t1s_symbols.specs.declared.Class.{Class}
 use Rattle.t1s_symbols.specs.declared.Class.TheVariants.{None as Unread, Beacon, Run, Other}
-use Rattle.t1s_symbols.specs.Groups.{same_symbol}
+use Rattle.t1s_symbols.specs.Symbols.{same_symbol}
 use Rattle.t1s_segment.specs.declared.receiver.Receiver.{Receiver}
 use Rattle.t1s_segment.specs.declared.receiver.Burst.{Burst}
 use Rattle.t1s_segment.specs.declared.receiver.Burst.TheVariants.{Outside, Reading, Ended}

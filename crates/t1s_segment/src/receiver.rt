@@ -1,7 +1,7 @@
 ghost use Rattle.std.specs.Prelude.{◌≡◌};
 ghost use Rattle.t1s_segment.specs.Receiver.{class_of, continues, continues_last, counted, ended, entered, heard_by, reading_of, receiver_start, receiver_step};
 
-use t1s_symbols::{Class, Heard, Quarter, Symbol, same_symbol};
+use t1s_symbols::{Class, Heard, Quarter, Symbol};
 
 /// Where a receiver is in what it hears.
 #[derive(Clone, Copy)]
@@ -27,7 +27,7 @@ fn continues(before: Quarter, quarter: Quarter) -> bool
     ensures { result ≡ continues before quarter }
 {
     let next_part = u16::from(quarter.part) == u16::from(before.part) + 1;
-    (next_part && same_symbol(before.sym, quarter.sym)) || (before.part == 3 && quarter.part == 0)
+    (next_part && before.sym == quarter.sym) || (before.part == 3 && quarter.part == 0)
 }
 
 /// Whether a quarter may follow: the first one of a burst is part 0.

@@ -8,7 +8,9 @@ use Rattle.t1s_symbols.specs.declared.Symbol.{Symbol}
 use Rattle.t1s_symbols.specs.declared.Symbol.TheVariants.{Nibble, J, K, T, R, H, N, S}
 use Rattle.t1s_symbols.specs.Ranges.{IsSymbol, symbol_in_range}
 use Rattle.t1s_symbols.proofs.InRange.{symbol_from_range}
-use Rattle.t1s_symbols.specs.Groups.{group, group_table, same_symbol, symbol, symbol_in, IsPair}
+use Rattle.t1s_symbols.proofs.Quarters.{same_symbol-sound}
+use Rattle.t1s_symbols.specs.GroupTable.{group, group_table, symbol, symbol_in, IsPair}
+use Rattle.t1s_symbols.specs.Symbols.{same_symbol}
 
 -- whether a group stands in some row
 abbrev pub has_group : List (Symbol × ℕ) → ℕ → Bool
@@ -22,17 +24,6 @@ is_distinct (pair ∷ pairs) = not (has_group pairs pair.1) && is_distinct pairs
 -- whether a symbol and a group stand in one row
 abbrev pub has_pair : List (Symbol × ℕ) → Symbol → ℕ → Bool
 has_pair rows s g = list_any (λ pair. same_symbol s pair.0 && (g == pair.1)) rows
-
-pub same_symbol-sound : (s t : Symbol) → IsTrue (same_symbol s t) → s ≡ t
-same_symbol-sound (Nibble m) (Nibble n) h = let e : m ≡ n = grind (arith, common_steps) in ap Nibble e
-same_symbol-sound J J h = refl
-same_symbol-sound K K h = refl
-same_symbol-sound T T h = refl
-same_symbol-sound R R h = refl
-same_symbol-sound H H h = refl
-same_symbol-sound N N h = refl
-same_symbol-sound S S h = refl
-same_symbol-sound _ _ h = cc
 
 has_group-of_pair : (rows : List (Symbol × ℕ)) (s : Symbol) (g : ℕ) → IsTrue (has_pair rows s g) → IsTrue (has_group rows g)
 has_group-of_pair [] s g h = h

@@ -1,2 +1,4 @@
 pub mod Ranges
-pub mod Groups
+pub mod Symbols
+pub mod GroupTable
+pub mod Quarters

@@ -1,6 +1,6 @@
 //! Laws over the table of symbols and groups.
 
-ghost use Rattle.t1s_symbols.specs.Groups.{NoSharedGroup, UndoEachOther};
+ghost use Rattle.t1s_symbols.specs.GroupTable.{NoSharedGroup, UndoEachOther};
 
 /// No two symbols have one group.
 pub fn no_shared_group()

@@ -1,13 +1,15 @@
 //! The symbols of the line, their 5B code groups, and what a node hears in a tick.
 //!
 //! The layer above uses `group_of` and `symbol_of`: both read one table of 23 pairs, `group_table` in
-//! `specs/Groups.antt`. `same_symbol` compares two symbols. The ranges of nibbles and parts (`IsSymbol`, `IsQuarter`, `IsHeard`) stand in
-//! `specs/Ranges.antt`. That no two symbols have one group, and that each call undoes the other, are laws, in
-//! the module `laws`.
+//! `specs/GroupTable.antt`. `quarter_reading` reads symbols from quarters, one after another, by what stands in
+//! `specs/Quarters.antt`. The ranges of nibbles and parts (`IsSymbol`, `IsQuarter`, `IsHeard`) stand in
+//! `specs/Ranges.antt`, and when two symbols are the same in `specs/Symbols.antt`. That no two symbols have one group,
+//! and that each call undoes the other, are laws, in the module `laws`.
 #![tactic(auto)]
 
 ghost use Rattle.std.specs.Prelude.{◌≡◌, ◌↔◌, IsSome, IfSome};
-ghost use Rattle.t1s_symbols.specs.Groups.{group, same_symbol, symbol, IsPair};
+ghost use Rattle.t1s_symbols.specs.GroupTable.{group, symbol, IsPair};
+ghost use Rattle.t1s_symbols.specs.Quarters.{continues, continues_last, quarter_reading};
 ghost use Rattle.t1s_symbols.specs.Ranges.{IsSymbol};
 
 pub mod laws;
@@ -38,6 +40,20 @@ pub enum Symbol {
 pub struct Quarter {
     pub sym: Symbol,
     pub part: u8,
+}
+
+/// The part of the quarter that completes its symbol.
+pub const LAST_PART: u8 = 3;
+
+/// What a quarter is in the reading of a burst.
+#[derive(Clone, Copy, PartialEq, Eq, Debug)]
+pub enum QuarterReading {
+    /// It doesn't continue the quarter before it: nothing can be read from here on.
+    Broken,
+    /// It continues a symbol that isn't complete yet.
+    Partial,
+    /// It completes its symbol.
+    Complete,
 }
 
 /// What a node hears in one tick.
@@ -111,7 +127,7 @@ macro_rules! groups {
 
 /// The 5B group of a symbol. The whole table, nibbles and control symbols alike, is a closed list of this
 /// project's own: that IEEE 802.3 clause 147 gives a group the use named here isn't claimed.
-#[tactic(auto, unfolding(crate::specs::Groups::IsPair, crate::specs::Groups::group))]
+#[tactic(auto, unfolding(crate::specs::GroupTable::IsPair, crate::specs::GroupTable::group))]
 pub fn group_of(s: Symbol) -> u8
     requires { IsSymbol s }
     ensures pair { IsPair s result }
@@ -122,7 +138,7 @@ pub fn group_of(s: Symbol) -> u8
 
 /// The symbol of a 5B group. It is None for silence (0x1F), for the eight groups that stand for
 /// nothing, and for every number above 0x1F.
-#[tactic(auto, unfolding(crate::specs::Groups::IsPair, crate::specs::Groups::symbol))]
+#[tactic(auto, unfolding(crate::specs::GroupTable::IsPair, crate::specs::GroupTable::symbol))]
 pub fn symbol_of(group: u8) -> Option<Symbol>
     ensures symbol { result ≡ symbol group }
     ensures pair { IfSome result (λ s. IsPair s group) }
@@ -131,20 +147,37 @@ pub fn symbol_of(group: u8) -> Option<Symbol>
     groups!(symbol of group)
 }
 
-/// Whether two symbols are the same, nibbles by their number.
-pub fn same_symbol(a: Symbol, b: Symbol) -> bool
-    ensures { result ≡ same_symbol a b }
-{
-    match (a, b) {
-        (Symbol::Nibble(m), Symbol::Nibble(n)) => m == n,
-        (Symbol::J, Symbol::J)
-        | (Symbol::K, Symbol::K)
-        | (Symbol::T, Symbol::T)
-        | (Symbol::R, Symbol::R)
-        | (Symbol::H, Symbol::H)
-        | (Symbol::N, Symbol::N)
-        | (Symbol::S, Symbol::S) => true,
-        _ => false,
+impl Quarter {
+    /// Whether this quarter continues the one before: it is the next part of the same symbol, or part 0 of any symbol
+    /// after a part 3.
+    pub fn continues(self, before: Quarter) -> bool
+        ensures { result ≡ continues before self }
+    {
+        let next_part = u16::from(self.part) == u16::from(before.part) + 1;
+        (next_part && before.sym == self.sym) || (before.part == LAST_PART && self.part == 0)
+    }
+
+    /// Whether this quarter may follow the last one of its burst. The first one of a burst is a part 0.
+    pub fn continues_last(self, last: Option<Quarter>) -> bool
+        ensures { result ≡ continues_last last self }
+    {
+        match last {
+            None => self.part == 0,
+            Some(before) => self.continues(before),
+        }
+    }
+
+    /// What this quarter is in the reading of a burst, by the last quarter before it, if there was one.
+    pub fn reading(self, last: Option<Quarter>) -> QuarterReading
+        ensures { result ≡ quarter_reading last self }
+    {
+        if !self.continues_last(last) {
+            QuarterReading::Broken
+        } else if self.part == LAST_PART {
+            QuarterReading::Complete
+        } else {
+            QuarterReading::Partial
+        }
     }
 }
 
@@ -203,13 +236,26 @@ mod tests {
     }
 
     #[test]
-    fn symbols_are_the_same_by_kind_and_nibble(rt: HostRuntime) {
-        for group in 0..32u8 {
-            for other in 0..32u8 {
-                if let (Some(a), Some(b)) = (symbol_of(group), symbol_of(other)) {
-                    assert_eq!(rt; same_symbol(a, b), group == other);
-                }
-            }
+    fn a_quarter_continues_its_symbol_or_begins_the_next_one(rt: HostRuntime) {
+        let one = Symbol::Nibble(1);
+        let two = Symbol::Nibble(2);
+        let rows = [
+            (None, (one, 0), QuarterReading::Partial),
+            (None, (one, 1), QuarterReading::Broken),
+            (Some((one, 0)), (one, 1), QuarterReading::Partial),
+            (Some((one, 0)), (two, 1), QuarterReading::Broken),
+            (Some((one, 0)), (one, 0), QuarterReading::Broken),
+            (Some((one, 1)), (one, 3), QuarterReading::Broken),
+            (Some((one, 2)), (one, 3), QuarterReading::Complete),
+            (Some((one, 2)), (Symbol::J, 3), QuarterReading::Broken),
+            (Some((one, 2)), (one, 0), QuarterReading::Broken),
+            (Some((one, 3)), (one, 0), QuarterReading::Partial),
+            (Some((one, 3)), (Symbol::T, 0), QuarterReading::Partial),
+            (Some((one, 3)), (one, 1), QuarterReading::Broken),
+        ];
+        for (last, (sym, part), want) in rows {
+            let last = last.map(|(sym, part)| Quarter { sym, part });
+            assert_eq!(rt; Quarter { sym, part }.reading(last), want);
         }
     }
 }

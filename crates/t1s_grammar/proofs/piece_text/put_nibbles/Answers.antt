@@ -1,5 +1,5 @@
 use Rattle.std.proofs.Common.{◌≡◌, ◌+◌, ◌-◌, ◌++◌, ◌∷◌, [], List, ℕ, take, length, refl, sym, ap, ◌∙◌, arith, append_assoc, length-append}
-use Rattle.t1s_symbols.specs.Groups.{group}
+use Rattle.t1s_symbols.specs.GroupTable.{group}
 use Rattle.t1s_symbols.specs.declared.Symbol.TheVariants.{Nibble}
 use Rattle.t1s_scramble.specs.Scrambled.{scrambled_nibble, scrambler_after}
 use Rattle.t1s_scramble.proofs.Nibbles.{scrambler_after-append, scrambler_after-nil}

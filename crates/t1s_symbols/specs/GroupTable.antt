@@ -1,9 +1,10 @@
 -- The 5B groups of the symbols: one table, read both ways.
-use Rattle.std.specs.Prelude.{◌≡◌, ℕ, Bool, true, false, ◌&&◌, ◌==◌, IsTrue, List, [], ◌∷◌, Option, None, Some, if◌then◌else◌}
+use Rattle.std.specs.Prelude.{◌≡◌, ℕ, ◌&&◌, ◌==◌, IsTrue, List, [], ◌∷◌, Option, None, Some, if◌then◌else◌}
 use Rattle.std.specs.List.{list_any}
 use Rattle.t1s_symbols.specs.declared.Symbol.{Symbol}
 use Rattle.t1s_symbols.specs.declared.Symbol.TheVariants.{Nibble, J, K, T, R, H, N, S}
 use Rattle.t1s_symbols.specs.Ranges.{IsSymbol}
+use Rattle.t1s_symbols.specs.Symbols.{same_symbol}
 
 -- the 23 pairs of a symbol and its group: a closed list of this project's own, and no statement about the
 -- standard. Silence (0x1F) is no symbol, and has no row
@@ -14,18 +15,6 @@ group_table =
     ∷ (Nibble 0x8, 0x12) ∷ (Nibble 0x9, 0x13) ∷ (Nibble 0xA, 0x16) ∷ (Nibble 0xB, 0x17)
     ∷ (Nibble 0xC, 0x1A) ∷ (Nibble 0xD, 0x1B) ∷ (Nibble 0xE, 0x1C) ∷ (Nibble 0xF, 0x1D)
     ∷ (J, 0x18) ∷ (K, 0x11) ∷ (T, 0x0D) ∷ (R, 0x07) ∷ (H, 0x04) ∷ (N, 0x08) ∷ (S, 0x19) ∷ []
-
--- whether two symbols are the same
-abbrev pub same_symbol : Symbol → Symbol → Bool
-same_symbol (Nibble m) (Nibble n) = m == n
-same_symbol J J = true
-same_symbol K K = true
-same_symbol T T = true
-same_symbol R R = true
-same_symbol H H = true
-same_symbol N N = true
-same_symbol S S = true
-same_symbol _ _ = false
 
 -- a symbol and a group are a pair of the table
 unfoldable pub IsPair : Symbol → ℕ → Type 0

@@ -6,6 +6,8 @@
 //! they keep, in bounded room, stands for this world, and cite the lemmas of `proofs/`.
 #![tactic(auto)]
 
+pub mod laws;
+
 ghost use Rattle.std.specs.Prelude.{◌≡◌};
 ghost use Rattle.t1s_world.specs.Hearing.{heard_with};
 

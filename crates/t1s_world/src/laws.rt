@@ -1,0 +1,28 @@
+//! Laws of the drives of a chain, on numbers alone. Each function is empty: its contract is the law.
+ghost use Rattle.t1s_world.specs.Laws.{DrivesNeverOverlap, ChainsAreWaves, OpportunitiesAreAlone, NoneStartsBefore, GapTellsPlace};
+
+/// No two drives of a chain are over one point in one tick.
+pub fn drives_never_overlap()
+    ensures { DrivesNeverOverlap }
+{}
+
+/// Where twice the span and the rise of carrier fit into an opportunity, the drives of a chain are waves at the place of
+/// each node, each behind the one before.
+pub fn chains_are_waves()
+    ensures { ChainsAreWaves }
+{}
+
+/// Behind one drive the opportunities of two IDs never begin in one tick, wherever each is counted.
+pub fn opportunities_are_alone()
+    ensures { OpportunitiesAreAlone }
+{}
+
+/// While the next drive is on its way to a point, no opportunity begins there but that of this drive.
+pub fn none_starts_before()
+    ensures { NoneStartsBefore }
+{}
+
+/// The gap between two waves tells how many opportunities lapsed in it.
+pub fn gap_tells_place()
+    ensures { GapTellsPlace }
+{}

@@ -22,16 +22,7 @@ named_by() {
 }
 
 # The crate, and the crates of the repository that it stands on, each once.
-needed=
-waiting=$crate
-while [ -n "$waiting" ]; do
-  next=${waiting%% *}
-  waiting=$(echo "${waiting#"$next"}" | sed 's/^ *//')
-  case " $needed " in *" $next "*) continue ;; esac
-  [ -d "crates/$next" ] || continue
-  needed="$needed $next"
-  waiting=$(echo $waiting $(named_by "$next"))
-done
+needed=$(awk -v top="$crate" -f tools/crates.awk crates.txt | tr '\n' ' ')
 
 mkdir -p "$source"
 cp HANDLES "$scratch/"
@@ -42,7 +33,7 @@ for name in $needed; do
   done
   echo "$name: $(named_by "$name")" >>"$scratch/crates.txt"
 done
-echo "misuse:$needed" >>"$scratch/crates.txt"
+echo "misuse: $needed" >>"$scratch/crates.txt"
 
 # The text on standard input without the marks, as a module of the crate.
 module() {

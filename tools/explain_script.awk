@@ -1,0 +1,176 @@
+# Reads the table of a script's words and then a script, and shows the line `place`, which was refused for `reason`, with the field
+# that breaks the rule and the rule.
+
+FNR == NR {
+  split($0, columns, "|")
+  fields_of[columns[1]] = columns[2]
+  next
+}
+
+{ lines = FNR }
+
+FNR <= place && !/^#/ { note_line() }
+
+FNR == place {
+  text = $0
+  count = split($0, field, " ")
+  if ($0 ~ /^ | $|  / || $0 == "") count = split_at_spaces($0)
+}
+
+END {
+  if (place > 0) show_line()
+  print "  " sentence()
+}
+
+# Keeps where each word stood before, and which nodes there are.
+function note_line(    part) {
+  split($0, part, " ")
+  if (FNR < place || place == 0) {
+    if (!(part[1] in first_at)) first_at[part[1]] = FNR
+    if (!((part[1], part[2]) in first_of)) first_of[part[1], part[2]] = FNR
+    if (part[1] == "node") nodes = nodes (nodes == "" ? "" : ", ") part[2]
+  }
+}
+
+# Splits at each space, so that empty fields count.
+function split_at_spaces(rest,    n, at) {
+  n = 0
+  while ((at = index(rest, " ")) > 0) {
+    field[++n] = substr(rest, 1, at - 1)
+    rest = substr(rest, at + 1)
+  }
+  field[++n] = rest
+  return n
+}
+
+function show_line(    shown, bad, before) {
+  if (place > lines) return
+  shown = text
+  gsub(/[^ -~]/, "?", shown)
+  if (length(shown) > 160) shown = substr(shown, 1, 160) " .."
+  printf "  %5d | %s\n", place, shown
+  bad = bad_field()
+  if (!bad) return
+  for (i = 1; i < bad; i++) before += length(field[i]) + 1
+  if (before < 160) printf "        | %" before "s%s\n", "", carets(length(field[bad]))
+}
+
+function carets(n,    marks) {
+  for (i = 0; i < n && i < 40 || i == 0; i++) marks = marks "^"
+  return marks
+}
+
+# The place of the first field that breaks the rule, or 0.
+function bad_field(    wanted, many, i) {
+  if (reason == "UnknownWord" || reason == "AfterEnd" || reason == "FirstLine") return 1
+  if (reason == "Form") return empty_field()
+  if (reason == "UnknownNode") return place > 0 ? number_of_node() : 0
+  many = split(fields_of[field[1]], wanted, " ")
+  for (i = 1; i <= many; i++)
+    if (reason == "Number" ? !is_number(field[i + 1]) : reason == "OutOfRange" && !is_within(field[i + 1], wanted[i])) return i + 1
+  return 0
+}
+
+# The place of the number of the node that a line is of: the first field with the name NO.
+function number_of_node(    wanted, many, i) {
+  many = split(fields_of[field[1]], wanted, " ")
+  for (i = 1; i <= many; i++) if (wanted[i] ~ /^NO=/) return i + 1
+  return 0
+}
+
+function empty_field(    i) {
+  for (i = 2; i <= count; i++) if (field[i] == "") return i
+  return 0
+}
+
+function is_number(text) {
+  return text ~ /^(0|[1-9][0-9]*)$/ && length(text) <= 10
+}
+
+function is_within(text, wanted,    ends) {
+  sub(/.*=/, "", wanted)
+  split(wanted, ends, "-")
+  return text + 0 >= ends[1] + 0 && text + 0 <= ends[2] + 0
+}
+
+function name_of(bad,    wanted) {
+  split(fields_of[field[1]], wanted, " ")
+  return wanted[bad - 1]
+}
+
+# 'NO ID PLACE' of the fields of a word.
+function names_of(word,    names) {
+  names = fields_of[word]
+  gsub(/=[0-9-]*/, "", names)
+  return names
+}
+
+function quoted(text) {
+  gsub(/[^ -~]/, "?", text)
+  return "`" (length(text) > 60 ? substr(text, 1, 60) ".." : text) "`"
+}
+
+# The rule that the line breaks, with its field and range.
+function sentence(    bad, wanted) {
+  bad = bad_field()
+  wanted = name_of(bad)
+  if (reason == "TooLong") return "a script has at most 1048576 octets"
+  if (reason == "FirstLine") return first_line()
+  if (reason == "AfterEnd") return "nothing but lines that begin with # may stand behind `end`, which is line " first_at["end"] blank()
+  if (reason == "UnknownWord") return unknown_word()
+  if (reason == "Form") return form()
+  if (reason == "Number") return half(wanted, 1) " of " quoted(field[1]) " is a number, one to ten decimal digits without a leading zero, and " quoted(field[bad]) " is none" carriage_return()
+  if (reason == "OutOfRange") return half(wanted, 1) " of " quoted(field[1]) " is " range(wanted) ", and " quoted(field[bad]) " is outside"
+  if (reason == "Twice") return twice()
+  if (reason == "UnknownNode") return unknown_node()
+  if (reason == "NoNode") return "a script has at least one `node` line, and none stands before `end`"
+  if (reason == "NoEnd") return "a script ends with a line `end T`, and this one has none"
+  return "docs/formats.md has the rule"
+}
+
+# The name, 1, or the range, 2, of a field such as 'N=16-255'.
+function half(wanted, which,    halves) {
+  split(wanted, halves, "=")
+  return halves[which]
+}
+
+function range(wanted,    ends) {
+  split(half(wanted, 2), ends, "-")
+  return ends[1] " to " ends[2]
+}
+
+function carriage_return() {
+  return text ~ /\r$/ ? "; the line ends with a carriage return, and lines end with LF alone" : ""
+}
+
+function blank() {
+  return text == "" ? "; a blank line counts too" : ""
+}
+
+function first_line() {
+  if (lines == 0) return "the input is empty; the first line of a script is `t1s 1`"
+  return "the first line of a script is `t1s 1`, exactly so" carriage_return()
+}
+
+function unknown_word() {
+  if (text == "" || text == "\r") return "a blank line is refused; a line without effect begins with #" carriage_return()
+  if (text ~ /^[ \t]/) return "a line begins with its word, and a blank stands before it"
+  return quoted(field[1]) " is no word of a script" (near == "" ? "" : "; the nearest is `" near " " names_of(near) "`") carriage_return()
+}
+
+function form(    many, wanted) {
+  many = split(fields_of[field[1]], wanted, " ")
+  return "the line is `" field[1] " " names_of(field[1]) "`, with one space before each field; behind the word stand " count - 1 " fields and not " many \
+    (empty_field() ? ", as an empty one counts" : "")
+}
+
+function twice(    wanted) {
+  split(fields_of[field[1]], wanted, " ")
+  if (wanted[1] ~ /^NO=/) return quoted(field[1]) " may stand once for a node, and that of node " field[2] " stands in line " first_of[field[1], field[2]] " already"
+  return quoted(field[1]) " may stand once, and stands in line " first_at[field[1]] " already"
+}
+
+function unknown_node() {
+  if (place == 0) return "the script has no node of that number, which `" command "` names; its nodes are " nodes
+  return "no `node` line of node " field[number_of_node()] " stands above" (nodes == "" ? "" : "; above stand the nodes " nodes)
+}

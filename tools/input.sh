@@ -1,0 +1,43 @@
+# shellcheck shell=sh
+# The input of a command: a file that is opened and handed on as standard input, or standard input itself. Sourced by t1s.
+#
+# Where the input can be read again, `input` names it, so that a refusal can be explained; else it is empty.
+
+read_fault=3
+most_of_script=1048577
+
+input=
+input_name=
+
+# Opens the file $1 as standard input. Nothing, and -, stand for standard input as it is.
+open_input() {
+    case $1 in
+    '' | -)
+        input_name='standard input'
+        [ ! -f /dev/stdin ] || ! is_at_start || input=/dev/stdin
+        ;;
+    *)
+        input_name=$(shown "$1")
+        [ -e "$1" ] || fail "$read_fault" "$input_name: there is no such file"
+        [ ! -d "$1" ] || fail "$read_fault" "$input_name is a folder"
+        [ -p "$1" ] || true <"$1" 2>/dev/null || fail "$read_fault" "$input_name can't be read"
+        exec <"$1"
+        [ ! -f "$1" ] || input=/dev/stdin
+        ;;
+    esac
+}
+
+# Whether standard input, a file, is at its start: then opening it anew gives the same octets.
+is_at_start() {
+    position=$(sed -n 's/^pos:[[:space:]]*//p' "/proc/$$/fdinfo/0" 2>/dev/null)
+    [ "${position:-1}" = 0 ]
+}
+
+# Keeps a copy of a script that comes through a pipe or from a terminal, as far as a script may go, and hands that on.
+keep_script() {
+    [ -p /dev/stdin ] || [ -t 0 ] || return 0
+    make_scratch
+    head -c $most_of_script >"$scratch/input" || fail "$read_fault" "reading $input_name failed"
+    exec <"$scratch/input"
+    input=$scratch/input
+}

@@ -9,7 +9,7 @@ FNR == NR {
 
 { lines = FNR }
 
-FNR <= place && !/^#/ { note_line() }
+(place == 0 || FNR <= place) && !/^#/ { note_line() }
 
 FNR == place {
   text = $0

@@ -1,8 +1,6 @@
 # shellcheck shell=sh
 # Explains on standard error what a refusal means. Sourced by t1s.
 
-most_explained=1048576
-
 # Explains the refusal of the input. The command is run again on the input, where that can be read
 # again, since its standard output is not the script's to read.
 explain_refusal() {
@@ -44,7 +42,7 @@ first_field() {
 # Shows the octets round the offset $place of the capture and says what may stand there.
 explain_capture() {
     echo "t1s: $input_name, offset $place: refused as $reason"
-    [ "$place" -le $most_explained ] || return 0
+    [ "$place" -le "$most_of_copy" ] || return 0
     od -An -v -tx1 -N $((place + 9)) <"$input" |
         awk -v place="$place" -v reason="$reason" -f "$tools/explain_capture.awk"
 }

@@ -5,6 +5,7 @@
 
 read_fault=3
 most_of_script=1048577
+most_of_copy=1048576
 
 input=
 input_name=
@@ -39,5 +40,21 @@ keep_script() {
     make_scratch
     head -c $most_of_script >"$scratch/input" || fail "$read_fault" "reading $input_name failed"
     exec <"$scratch/input"
+    input=$scratch/input
+}
+
+# Keeps a copy of the beginning of a capture that comes through a pipe, and hands on each piece as it comes, once it is in the copy
+# (tee writes its standard output first).
+keep_capture() {
+    [ -p /dev/stdin ] || return 0
+    make_scratch
+    mkfifo "$scratch/pipe" || return 0
+    exec 5<&0
+    {
+        dd bs=4096 count=$((most_of_copy / 4096)) | tee /dev/fd/6 >"$scratch/input"
+        cat >&6
+    } <&5 5<&- 6>"$scratch/pipe" 2>/dev/null &
+    copier=$!
+    exec 5<&- <"$scratch/pipe"
     input=$scratch/input
 }

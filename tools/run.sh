@@ -6,7 +6,10 @@ run_command() {
     refuse_terminal
     open_input "$file"
     is_current || build
-    [ "$reads" != script ] || keep_script
+    case $reads in
+    script) keep_script ;;
+    capture) keep_capture ;;
+    esac
     run_program
     ended=$?
     tell_end

@@ -38,6 +38,12 @@ so "a script comes through a pipe" ran check
 cat $script | ./t1s decode >"$room/text" 2>"$room/said"
 ended=$?
 so "so does a capture" ran decode
+printf 'T1SC' >"$room/piece"
+(cat "$room/piece"; sleep 2) | (./t1s decode >"$room/text" 2>"$room/said"; echo $? >"$room/ended") &
+sleep 1
+so "the first octets of a capture are handed on before the last ones are there" cmp "$room/read" "$room/piece"
+wait
+so "and the program then runs to its end" [ "$(cat "$room/ended")" -eq 0 ]
 cp $script ./-odd
 call run -- -odd
 so "a name may begin with a dash behind --" ran run

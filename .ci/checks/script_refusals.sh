@@ -6,6 +6,8 @@ set -u
 . .ci/checks/lib/stub.sh
 proved=$PWD/crates/t1s/out/t1s
 begin
+call run examples/three_nodes/script.t1s
+so "the program is built once for all that follows" ended_with 0
 
 # Compares what is said of the file $room/input, refused by the words $1 with the line $2, with the texts behind them.
 row() {
@@ -21,6 +23,12 @@ row() {
   for text in "$@"; do
     so "$refusal: $text" said "$text"
   done
+  sed 1d "$room/said" >"$room/said_of_file"
+  # shellcheck disable=SC2002,SC2086  # a pipe is meant
+  cat "$room/input" | ./t1s $words >"$room/text" 2>"$room/said"
+  ended=$?
+  sed 1d "$room/said" >"$room/said_of_pipe"
+  so "$refusal is explained through a pipe too" all 'ended_with 1' 'cmp -s "$room/said_of_file" "$room/said_of_pipe"'
   [ -x "$proved" ] || return 0
   # shellcheck disable=SC2086
   so "the proved program says $refusal" [ "$("$proved" $words <"$room/input" | tail -n 1)" = "$refusal" ]

@@ -83,7 +83,11 @@ echo >>$source
 echo 30 >"$room/build_seconds"
 ./t1s run $script >"$room/text" 2>"$room/said" &
 first=$!
-while built $((count + 1)); do sleep 0.1; done
+tries=0
+while built $((count + 1)) && [ $tries -lt 200 ]; do
+  tries=$((tries + 1))
+  sleep 0.1
+done
 kill -TERM $first
 wait $first
 ended=$?

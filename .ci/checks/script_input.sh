@@ -18,6 +18,23 @@ ran() {
   all 'ended_with 0' 'wrote "$report"' "got_words '$1'" "got_input $room/clone/$script" 'said_nothing'
 }
 
+# Waits for the file $1.
+until_there() {
+  while [ ! -f "$1" ]; do sleep 0.1; done
+}
+
+# Waits until the file $1 has the octets of $2, for at most 100 tries.
+until_same() {
+  for try in 0 1 2 3 4 5 6 7 8 9; do
+    for _ in 0 1 2 3 4 5 6 7 8 9; do
+      cmp -s "$1" "$2" && return
+      sleep 0.1
+    done
+  done
+  echo "not the same after $try tries"
+  return 1
+}
+
 call run $script
 so "the program is built once for all that follows" ended_with 0
 call run $script
@@ -39,9 +56,9 @@ cat $script | ./t1s decode >"$room/text" 2>"$room/said"
 ended=$?
 so "so does a capture" ran decode
 printf 'T1SC' >"$room/piece"
-(cat "$room/piece"; sleep 2) | (./t1s decode >"$room/text" 2>"$room/said"; echo $? >"$room/ended") &
-sleep 1
-so "the first octets of a capture are handed on before the last ones are there" cmp "$room/read" "$room/piece"
+(cat "$room/piece"; until_there "$room/go") | (./t1s decode >"$room/text" 2>"$room/said"; echo $? >"$room/ended") &
+so "the first octets of a capture are handed on before the last ones are there" until_same "$room/read" "$room/piece"
+: >"$room/go"
 wait
 so "and the program then runs to its end" [ "$(cat "$room/ended")" -eq 0 ]
 cp $script ./-odd

@@ -10,19 +10,19 @@ use Rattle.t1s_symbols.specs.Symbols.{same_symbol}
 use Rattle.t1s_grammar.specs.Prefixes.{beginning_symbols}
 use Rattle.t1s_capture.specs.declared.items.Why.{Why}
 use Rattle.t1s_capture.specs.declared.items.Why.TheVariants.{Magic as BadMagic, Version as BadVersion, NodeByte, Group, Place, AfterEnd, TooLong}
-use Rattle.t1s_capture.specs.declared.stage.Mark.{Mark}
-use Rattle.t1s_capture.specs.declared.stage.Mark.TheVariants.{Gap as GapMark, End, Torn as TornMark, Known, Unknown}
+use Rattle.t1s_capture.specs.declared.stage.OctetKind.{OctetKind}
+use Rattle.t1s_capture.specs.declared.stage.OctetKind.TheVariants.{Gap as GapOctet, End, Torn as TornOctet, Known, Unknown}
 use Rattle.t1s_capture.specs.Captures.{CaptureItem, Gap, Burst, Torn, magic, header, no_symbols, symbol_octets, item_octets, IsItem, begun_text, IsCapture, IsCapturePrefix}
-use Rattle.t1s_capture.specs.Fronts.{Tail, in_gap, in_burst, in_blur, after_torn, ended, Front, in_magic, at_version, at_node, behind, AreMadeOf}
+use Rattle.t1s_capture.specs.PrefixParts.{Tail, in_gap, in_burst, in_blur, after_torn, ended, PrefixParts, in_magic, at_version, at_node, with_items, AreMadeOf}
 use Rattle.t1s_capture.specs.Offences.{IsOpenTail, IsOpen, GrowsTooLong, IsFirstOf, IsFirstOffence}
-use Rattle.t1s_capture.specs.Advance.{mark}
+use Rattle.t1s_capture.specs.DecoderTable.{octet_kind}
 use Rattle.t1s_capture.specs.State.{DecoderState}
 use Rattle.t1s_capture.specs.Stands.{Stands}
 use Rattle.t1s_capture.proofs.Texts.{All-back}
-use Rattle.t1s_capture.proofs.Marks.{IsMarked, marked}
-use Rattle.t1s_capture.proofs.Grow.{grew, fails, grow, grow_burst, grow_torn}
+use Rattle.t1s_capture.proofs.OctetKinds.{HasKind, has_kind}
+use Rattle.t1s_capture.proofs.NextParts.{next_is, fails, next_parts, next_in_burst, next_after_torn}
 use Rattle.t1s_capture.proofs.Whole.{made_once, same_items, made_begins}
-use Rattle.t1s_capture.proofs.Reasons.{grammar_reasons, item_reasons, behind_header, first_reason}
+use Rattle.t1s_capture.proofs.Reasons.{grammar_reasons, item_reasons, after_header, first_reason}
 use Rattle.t1s_capture.proofs.FirstOffences.{broken_here, too_long_here}
 
 -- ---- a capture has octets alone
@@ -95,12 +95,12 @@ no_prefix_over before octet high (rest, h) =
 
 -- ---- the reason
 
-high_mark : (o : ℕ) (k : Mark) → 256 ≤ o → IsMarked o k → k ≡ Unknown
-high_mark o GapMark high is = absurd (omega arith)
-high_mark o End high is = absurd (omega arith)
-high_mark o TornMark high is = absurd (omega arith)
-high_mark o (Known s) high is = let low = low_group s in let at = is.group in absurd (omega arith)
-high_mark o Unknown high is = refl
+high_kind : (o : ℕ) (k : OctetKind) → 256 ≤ o → HasKind o k → k ≡ Unknown
+high_kind o GapOctet high is = absurd (omega arith)
+high_kind o End high is = absurd (omega arith)
+high_kind o TornOctet high is = absurd (omega arith)
+high_kind o (Known s) high is = let low = low_group s in let at = is.group in absurd (omega arith)
+high_kind o Unknown high is = refl
 
 low_magic : (n : ℕ) → n < 4 → slice_index magic n < 256
 low_magic zero h = omega arith
@@ -114,13 +114,13 @@ HasReason octets o = (why : Why) × IsFirstOf grammar_reasons octets o why
 
 module _ (octets : List ℕ) (o : ℕ) (high : 256 ≤ o) where
   -- within a count no item and no symbol may be tried
-  in_count : (node : ℕ) (items : List CaptureItem) (tail : Tail) → AreMadeOf octets (behind node items tail) → (IsOpenTail tail → ⊥) → IsFirstOf item_reasons octets o Place
+  in_count : (node : ℕ) (items : List CaptureItem) (tail : Tail) → AreMadeOf octets (with_items node items tail) → (IsOpenTail tail → ⊥) → IsFirstOf item_reasons octets o Place
   in_count node items tail m closed =
       inr ((λ h. let z = h.1 in omega arith), inr ((λ h. not_open h.0), inr ((λ h. let z = h.1 in omega arith), inr (not_long, inl (tt, refl)))))
     where
-      same : (node' : ℕ) (items' : List CaptureItem) (tail' : Tail) → AreMadeOf octets (behind node' items' tail') → IsOpenTail tail' → ⊥
+      same : (node' : ℕ) (items' : List CaptureItem) (tail' : Tail) → AreMadeOf octets (with_items node' items' tail') → IsOpenTail tail' → ⊥
       same node' items' tail' n k =
-          closed (subst (λ (t : Tail). IsOpenTail t) (same_items node' node items' items tail' tail (made_once octets (behind node' items' tail') (behind node items tail) n m)).2 k)
+          closed (subst (λ (t : Tail). IsOpenTail t) (same_items node' node items' items tail' tail (made_once octets (with_items node' items' tail') (with_items node items tail) n m)).2 k)
 
       not_open : IsOpen octets → ⊥
       not_open h = same h.node h.items h.tail h.made h.tried
@@ -128,50 +128,50 @@ module _ (octets : List ℕ) (o : ℕ) (high : 256 ≤ o) where
       not_long : GrowsTooLong octets o → ⊥
       not_long h = same h.node h.items (in_burst h.symbols) h.made tt
 
-  by_fail : (f : Front) (why : Why) → AreMadeOf octets f → grow f o ≡ fails why → HasReason octets o
+  by_fail : (f : PrefixParts) (why : Why) → AreMadeOf octets f → next_parts f o ≡ fails why → HasReason octets o
   by_fail f why m e = (why, first_reason octets f o why m e)
 
   in_header : (n : ℕ) (p : Bool) → AreMadeOf octets (in_magic n) → (o == slice_index magic n) ≡ p → HasReason octets o
   in_header n true m e = let low = low_magic n m.in_range in let is = eqb-true o (slice_index magic n) e in absurd (omega arith)
   in_header n false m e =
-      by_fail (in_magic n) BadMagic m (ap (λ (b : Bool). if b then (if n == 3 then grew at_version else grew (in_magic (n + 1))) else fails BadMagic) e)
+      by_fail (in_magic n) BadMagic m (ap (λ (b : Bool). if b then (if n == 3 then next_is at_version else next_is (in_magic (n + 1))) else fails BadMagic) e)
 
   in_version : (p : Bool) → AreMadeOf octets at_version → (o == 1) ≡ p → HasReason octets o
   in_version true m e = let is = eqb-true o 1 e in absurd (omega arith)
-  in_version false m e = by_fail at_version BadVersion m (ap (λ (b : Bool). if b then grew at_node else fails BadVersion) e)
+  in_version false m e = by_fail at_version BadVersion m (ap (λ (b : Bool). if b then next_is at_node else fails BadVersion) e)
 
   in_node : (p : Bool) → AreMadeOf octets at_node → nat_lt o 16 ≡ p → HasReason octets o
   in_node true m e = let is = ltb-true o 16 e in absurd (omega arith)
-  in_node false m e = by_fail at_node NodeByte m (ap (λ (b : Bool). if b then grew (behind o [] (in_burst no_symbols)) else fails NodeByte) e)
+  in_node false m e = by_fail at_node NodeByte m (ap (λ (b : Bool). if b then next_is (with_items o [] (in_burst no_symbols)) else fails NodeByte) e)
 
-  unknown : mark o ≡ Unknown
-  unknown = high_mark o (mark o) high (marked o)
+  unknown : octet_kind o ≡ Unknown
+  unknown = high_kind o (octet_kind o) high (has_kind o)
 
-  over_reason : (f : Front) → AreMadeOf octets f → HasReason octets o
+  over_reason : (f : PrefixParts) → AreMadeOf octets f → HasReason octets o
   over_reason (in_magic n) m = in_header n (o == slice_index magic n) m refl
   over_reason at_version m = in_version (o == 1) m refl
   over_reason at_node m = in_node (nat_lt o 16) m refl
-  over_reason (behind node items (in_gap count)) m =
-      (Place, behind_header octets o node items (in_gap count) m Place (λ k. cc) (in_count node items (in_gap count) m (λ k. k)))
-  over_reason (behind node items (in_burst b)) m =
-      by_fail (behind node items (in_burst b)) Group m (ap (λ (k : Mark). grow_burst k node items b) unknown)
-  over_reason (behind node items (in_blur b count)) m =
-      (Place, behind_header octets o node items (in_blur b count) m Place (λ k. cc) (in_count node items (in_blur b count) m (λ k. k)))
-  over_reason (behind node items after_torn) m =
-      by_fail (behind node items after_torn) Group m (ap (λ (k : Mark). grow_torn k node items) unknown)
-  over_reason (behind node items ended) m = by_fail (behind node items ended) AfterEnd m refl
+  over_reason (with_items node items (in_gap count)) m =
+      (Place, after_header octets o node items (in_gap count) m Place (λ k. cc) (in_count node items (in_gap count) m (λ k. k)))
+  over_reason (with_items node items (in_burst b)) m =
+      by_fail (with_items node items (in_burst b)) Group m (ap (λ (k : OctetKind). next_in_burst k node items b) unknown)
+  over_reason (with_items node items (in_blur b count)) m =
+      (Place, after_header octets o node items (in_blur b count) m Place (λ k. cc) (in_count node items (in_blur b count) m (λ k. k)))
+  over_reason (with_items node items after_torn) m =
+      by_fail (with_items node items after_torn) Group m (ap (λ (k : OctetKind). next_after_torn k node items) unknown)
+  over_reason (with_items node items ended) m = by_fail (with_items node items ended) AfterEnd m refl
 
--- behind octets that a decoder stands for, such a number is the first offence
+-- after octets that a decoder stands for, such a number is the first offence
 pub over_offence : (before : List ℕ) (octet : ℕ) (d : DecoderState) → Stands before d → 256 ≤ octet → (why : Why) × IsFirstOffence (before ++ octet ∷ []) (length before) why
 over_offence before octet d s high = elim (cases_lt (length before) (2 ^ 30)) [
   | inl short ↦
-      let (why, reason) = over_reason before octet high s.front s.made in (
+      let (why, reason) = over_reason before octet high s.parts s.made in (
         why,
-        broken_here before octet (made_begins before s.front s.made) why short (λ k. no_prefix_over before octet high k)
+        broken_here before octet (made_begins before s.parts s.made) why short (λ k. no_prefix_over before octet high k)
             (inr ((λ (k : length before ≡ 2 ^ 30). let z : ⊥ = omega arith in z), reason)),
       )
   | inr le ↦
       let limit = s.limit in
       let full : length before ≡ 2 ^ 30 = omega arith in
-      (TooLong, too_long_here before octet (made_begins before s.front s.made) full)
+      (TooLong, too_long_here before octet (made_begins before s.parts s.made) full)
 ]

@@ -1,4 +1,4 @@
--- The counts, the views and the history of the descrambler behind one item, one piece or one nibble more.
+-- The counts, the views and the history of the descrambler after one item, one piece or one nibble more.
 use Rattle.std.proofs.Common.{◌≡◌, ℕ, zero, suc, ◌+◌, ◌<◌, ◌≤◌, Bool, true, false, cond, List, [], ◌∷◌, ◌++◌, length, drop, nat_lt, if◌then◌else◌, refl, sym, ap, ◌∙◌, arith, append_assoc}
 use Rattle.std.specs.Prelude.{count_by}
 use Rattle.std.specs.List.{flat_map}
@@ -12,24 +12,24 @@ use Rattle.t1s_grammar.specs.Burst.{Piece}
 use Rattle.t1s_grammar.specs.Prefixes.{Beginning, whole_pieces, last_nibbles}
 use Rattle.t1s_pcs_rx.specs.Views.{View, view_of}
 use Rattle.t1s_capture.specs.Captures.{CaptureItem, no_symbols, item_ticks, ticks_of}
-use Rattle.t1s_capture.specs.Pieces.{pieces_nibbles, nibbles_in, item_symbols, item_nibbles, item_pieces, history_behind, piece_views, item_views, views_of, is_good, is_beacon, is_run, is_bare, is_torn, counts_with}
-use Rattle.t1s_capture.specs.Stands.{kept_of, views_at}
+use Rattle.t1s_capture.specs.Pieces.{pieces_nibbles, nibbles_in, item_symbols, item_nibbles, item_pieces, items_history, piece_views, item_views, views_of, is_good, is_beacon, is_run, is_bare, is_torn, counts_with}
+use Rattle.t1s_capture.specs.Stands.{piece_nibbles, views_at}
 use Rattle.t1s_capture.proofs.Texts.{ticks_of-push}
 
 -- ---- histories
 
-pub history_push : (items : List CaptureItem) (x : CaptureItem) → history_behind (items ++ x ∷ []) ≡ descrambler_after (history_behind items) (item_nibbles x)
-unfolding history_behind
+pub history_push : (items : List CaptureItem) (x : CaptureItem) → items_history (items ++ x ∷ []) ≡ descrambler_after (items_history items) (item_nibbles x)
+unfolding items_history
 history_push items x =
     ap (λ (ns : List ℕ). descrambler_after start_history ns)
     (flat_map-append item_nibbles items (x ∷ []) ∙ ap (λ (ns : List ℕ). flat_map item_nibbles items ++ ns) (append-nil (item_nibbles x)))
     ∙ descrambler_after-append start_history (flat_map item_nibbles items) (item_nibbles x)
 
-pub history_none : history_behind [] ≡ start_history
-unfolding history_behind
+pub history_none : items_history [] ≡ start_history
+unfolding items_history
 history_none = descrambler_after-nil start_history
 
--- the history behind a tail without symbols
+-- the history after a tail without symbols
 pub history_rests : (past : List Bool) → descrambler_after past (nibbles_in no_symbols) ≡ past
 history_rests past = descrambler_after-nil past
 
@@ -45,8 +45,8 @@ history_more past xs ns n =
 
 -- ---- the nibbles that are kept
 
-pub none_kept : (past : List Bool) (b : Beginning) → last_nibbles b ≡ [] → kept_of past b ≡ []
-none_kept past b e =
+pub no_nibbles : (past : List Bool) (b : Beginning) → last_nibbles b ≡ [] → piece_nibbles past b ≡ []
+no_nibbles past b e =
     ap (λ (ns : List ℕ). drop 9 (descrambled_nibbles (descrambler_after past (pieces_nibbles (whole_pieces b))) ns)) e
     ∙ ap (λ (ns : List ℕ). drop 9 ns) (descrambled_nibbles-nil (descrambler_after past (pieces_nibbles (whole_pieces b))))
 
@@ -68,11 +68,11 @@ drop_push k xs x = by_length (nat_lt (length xs) k) refl
     by_length true e = drop_few k xs x (ltb-true (length xs) k e)
     by_length false e = drop_many k xs x (ltb-false (length xs) k e)
 
-pub kept_more : (past : List Bool) (ns : List ℕ) (n : ℕ) →
+pub nibbles_more : (past : List Bool) (ns : List ℕ) (n : ℕ) →
     drop 9 (descrambled_nibbles past (ns ++ n ∷ []))
     ≡ (if nat_lt (length ns) 9 then drop 9 (descrambled_nibbles past ns)
     else drop 9 (descrambled_nibbles past ns) ++ descrambled_nibble (descrambler_after past ns) n ∷ [])
-kept_more past ns n =
+nibbles_more past ns n =
     ap (λ (xs : List ℕ). drop 9 xs) (descrambled_nibbles-push past ns n)
     ∙ drop_push 9 (descrambled_nibbles past ns) (descrambled_nibble (descrambler_after past ns) n)
     ∙ ap (λ (k : ℕ). if nat_lt k 9 then drop 9 (descrambled_nibbles past ns)
@@ -105,19 +105,19 @@ item_views-push (y ∷ items) past x =
     ∙ sym (append_assoc (piece_views past (item_pieces y)) (item_views (descrambler_after past (item_nibbles y)) items) _)
 
 pub views_push : (items : List CaptureItem) (x : CaptureItem) → views_of (items ++ x ∷ []) ≡ views_at items (item_symbols x)
-unfolding history_behind
+unfolding items_history
 views_push items x = item_views-push items start_history x
 
 pub views_rest : (items : List CaptureItem) → views_at items no_symbols ≡ views_of items
-views_rest items = ap (λ (vs : List View). views_of items ++ vs) (piece_views-none (history_behind items)) ∙ append-nil (views_of items)
+views_rest items = ap (λ (vs : List View). views_of items ++ vs) (piece_views-none (items_history items)) ∙ append-nil (views_of items)
 
 pub views_none : views_at [] no_symbols ≡ []
 unfolding item_views
 views_none = views_rest []
 
--- behind an item more
-pub views_behind : (items : List CaptureItem) (x : CaptureItem) → views_at (items ++ x ∷ []) no_symbols ≡ views_at items (item_symbols x)
-views_behind items x = views_rest (items ++ x ∷ []) ∙ views_push items x
+-- after an item more
+pub views_after : (items : List CaptureItem) (x : CaptureItem) → views_at (items ++ x ∷ []) no_symbols ≡ views_at items (item_symbols x)
+views_after items x = views_rest (items ++ x ∷ []) ∙ views_push items x
 
 -- ---- counts
 

@@ -10,13 +10,13 @@ use Rattle.t1s_symbols.specs.declared.Heard.{Heard}
 use Rattle.t1s_symbols.specs.declared.Heard.TheVariants.{Nothing, One, Many}
 use Rattle.t1s_symbols.specs.Ranges.{IsSymbol, IsHeard}
 use Rattle.t1s_grammar.specs.Prefixes.{Beginning, beginning_symbols, IsBeginning, phase_of}
-use Rattle.t1s_grammar.specs.Steps.{start_phase, place_step, ends_burst}
+use Rattle.t1s_grammar.specs.PlaceTable.{start_phase, place_step, ends_burst}
 use Rattle.t1s_grammar.specs.declared.place.Phase.{Phase}
 use Rattle.t1s_grammar.specs.declared.place.PlaceFault.{PlaceFault}
 use Rattle.t1s_capture.specs.Captures.{CaptureItem, Gap, Burst, Torn, no_symbols, symbol_count, item_ticks, NeedsBlur, IsItem, is_gap, AlternatesFrom, IsItemList, ticks_of}
 use Rattle.t1s_capture.specs.Cut.{Tick, is_silent, AreSilent, IsRow, quarter_heard, quarter_of, is_part, symbol_by, on_place, on_symbol, read_on, burst_or_torn, row_items, goes_on, cut_from, cut, AreHeard, CutsAreCaptures}
-use Rattle.t1s_capture.specs.Writing.{reading, row_from}
-use Rattle.t1s_capture.proofs.Growth.{more}
+use Rattle.t1s_capture.specs.WriterTable.{reading, row_from}
+use Rattle.t1s_grammar.proofs.Longer.{more}
 use Rattle.t1s_capture.proofs.Sound.{is_burst, burst_ends}
 use Rattle.t1s_capture.proofs.Rows.{ReadsTo, row_reads}
 use Rattle.t1s_capture.proofs.Cuts.{goes_apart, row_push}

@@ -5,6 +5,7 @@ use Rattle.std.specs.List.{flat_map}
 use Rattle.std.proofs.lemmas.Bool.{eqb-true, eq-eqb, and_parts}
 use Rattle.std.proofs.lemmas.List.{append-nil}
 use Rattle.t1s_symbols.specs.declared.Symbol.{Symbol}
+use Rattle.t1s_symbols.specs.declared.Symbol.TheVariants.{Nibble, J, K, T, R, H, N, S}
 use Rattle.t1s_symbols.specs.declared.Quarter.{Quarter}
 use Rattle.t1s_symbols.specs.declared.Heard.{Heard}
 use Rattle.t1s_symbols.specs.declared.Heard.TheVariants.{Nothing, One, Many}
@@ -13,15 +14,15 @@ use Rattle.t1s_symbols.specs.Ranges.{IsSymbol}
 use Rattle.t1s_symbols.proofs.Quarters.{same_symbol-refl, same_symbol-sound}
 use Rattle.t1s_grammar.specs.Burst.{IsBurst, BeginsBurst}
 use Rattle.t1s_grammar.specs.Prefixes.{Beginning, beginning_symbols, IsBeginning, phase_of}
-use Rattle.t1s_grammar.specs.Steps.{place_step, ends_burst}
+use Rattle.t1s_grammar.specs.PlaceTable.{place_step, ends_burst}
 use Rattle.t1s_grammar.specs.declared.place.Phase.{Phase}
 use Rattle.t1s_grammar.specs.declared.place.PlaceFault.{PlaceFault}
 use Rattle.t1s_grammar.proofs.Beginnings.{BeginsBurst-stands, taken-begins}
 use Rattle.t1s_capture.specs.Captures.{CaptureItem, Gap, Burst, Torn, no_symbols, symbol_count}
-use Rattle.t1s_capture.specs.Growing.{grown}
+use Rattle.t1s_grammar.specs.Longer.{with_symbol}
 use Rattle.t1s_capture.specs.Cut.{Tick, is_silent, AreSilent, AreHeard, quarter_heard, quarter_of, is_part, symbol_by, on_place, on_symbol, read_on, burst_or_torn, row_items, goes_on, cut_from, cut}
 use Rattle.t1s_capture.specs.CutRows.{part_tick, symbol_ticks, CutsReadWhatIsHeard, SilenceIsOneGap, RowsAreCutApart}
-use Rattle.t1s_capture.proofs.Growth.{more}
+use Rattle.t1s_grammar.proofs.Longer.{more}
 use Rattle.t1s_capture.proofs.Sound.{burst_place, is_burst, burst_ends}
 use Rattle.t1s_capture.proofs.Cuts.{goes_same}
 use Rattle.t1s_capture.proofs.CutItems.{quarter_symbol, symbol_read, read_begins, nothing_begun}
@@ -95,7 +96,7 @@ read_as t u v w s rest others e =
 
 -- ---- all ticks of a row
 
--- what is read of ticks behind the symbols b
+-- what is read of ticks after the symbols b
 record Reads (b : Beginning) (ts : List Tick) : Type 0 where
   symbols : List Symbol
   left : List Tick
@@ -155,9 +156,9 @@ reads (t ∷ u ∷ v ∷ w ∷ rest) b h r = by_symbol (λ c k. reads rest c k r
         Reads b (t ∷ u ∷ v ∷ w ∷ rest)
     by_place others s e k (Ok q) f =
         let m = more b s q f in
-        let same : read_on b (t ∷ u ∷ v ∷ w ∷ rest) ≡ read_on (grown b s) rest =
+        let same : read_on b (t ∷ u ∷ v ∷ w ∷ rest) ≡ read_on (with_symbol b s) rest =
         on_ticks (Some s) e ∙ ap (λ (x : Result Phase PlaceFault). on_place b s x (λ c. read_on c rest)) f in
-        reads_more b (grown b s) s (t ∷ u ∷ v ∷ w ∷ rest) (t ∷ u ∷ v ∷ w ∷ []) rest refl (are_parts t u v w s e) same m.symbols (others (grown b s) (m.in_range h k))
+        reads_more b (with_symbol b s) s (t ∷ u ∷ v ∷ w ∷ rest) (t ∷ u ∷ v ∷ w ∷ []) rest refl (are_parts t u v w s e) same m.symbols (others (with_symbol b s) (m.in_range h k))
     by_place others s e k (Err fault) f =
         let same : read_on b (t ∷ u ∷ v ∷ w ∷ rest) ≡ b =
         on_ticks (Some s) e ∙ ap (λ (x : Result Phase PlaceFault). on_place b s x (λ c. read_on c rest)) f in
@@ -273,33 +274,33 @@ new_row (r ∷ rs) x y apart e =
     by_kind false true f g = refl
     by_kind false false f g = absurd (f refl)
 
-apart_from : (before row behind : List Tick) (x y : Tick) → is_silent x ≢ is_silent y →
-    cut_from row (before ++ x ∷ y ∷ behind) ≡ cut_from row (before ++ x ∷ []) ++ cut_from (y ∷ []) behind
-apart_from [] row behind x y apart = by_test (goes_on row x) refl
+apart_from : (before row after : List Tick) (x y : Tick) → is_silent x ≢ is_silent y →
+    cut_from row (before ++ x ∷ y ∷ after) ≡ cut_from row (before ++ x ∷ []) ++ cut_from (y ∷ []) after
+apart_from [] row after x y apart = by_test (goes_on row x) refl
   where
-    ends : (rs : List Tick) → goes_on rs y ≡ false → cut_from rs (y ∷ behind) ≡ row_items rs ++ cut_from (y ∷ []) behind
-    ends rs e = ap (λ (b : Bool). if b then cut_from (rs ++ y ∷ []) behind else row_items rs ++ cut_from (y ∷ []) behind) e
+    ends : (rs : List Tick) → goes_on rs y ≡ false → cut_from rs (y ∷ after) ≡ row_items rs ++ cut_from (y ∷ []) after
+    ends rs e = ap (λ (b : Bool). if b then cut_from (rs ++ y ∷ []) after else row_items rs ++ cut_from (y ∷ []) after) e
 
     by_test : (b : Bool) → goes_on row x ≡ b →
-        (if b then cut_from (row ++ x ∷ []) (y ∷ behind) else row_items row ++ cut_from (x ∷ []) (y ∷ behind))
-        ≡ (if b then row_items (row ++ x ∷ []) else row_items row ++ row_items (x ∷ [])) ++ cut_from (y ∷ []) behind
+        (if b then cut_from (row ++ x ∷ []) (y ∷ after) else row_items row ++ cut_from (x ∷ []) (y ∷ after))
+        ≡ (if b then row_items (row ++ x ∷ []) else row_items row ++ row_items (x ∷ [])) ++ cut_from (y ∷ []) after
     by_test true e = ends (row ++ x ∷ []) (new_row row x y apart e)
     by_test false e =
         ap (λ (xs : List CaptureItem). row_items row ++ xs) (ends (x ∷ []) (new_row [] x y apart refl))
-        ∙ sym (append_assoc (row_items row) (row_items (x ∷ [])) (cut_from (y ∷ []) behind))
-apart_from (z ∷ zs) row behind x y apart =
-    by_test (goes_on row z) (apart_from zs (row ++ z ∷ []) behind x y apart) (apart_from zs (z ∷ []) behind x y apart)
+        ∙ sym (append_assoc (row_items row) (row_items (x ∷ [])) (cut_from (y ∷ []) after))
+apart_from (z ∷ zs) row after x y apart =
+    by_test (goes_on row z) (apart_from zs (row ++ z ∷ []) after x y apart) (apart_from zs (z ∷ []) after x y apart)
   where
     by_test : (b : Bool) →
-        cut_from (row ++ z ∷ []) (zs ++ x ∷ y ∷ behind) ≡ cut_from (row ++ z ∷ []) (zs ++ x ∷ []) ++ cut_from (y ∷ []) behind →
-        cut_from (z ∷ []) (zs ++ x ∷ y ∷ behind) ≡ cut_from (z ∷ []) (zs ++ x ∷ []) ++ cut_from (y ∷ []) behind →
-        (if b then cut_from (row ++ z ∷ []) (zs ++ x ∷ y ∷ behind) else row_items row ++ cut_from (z ∷ []) (zs ++ x ∷ y ∷ behind))
-        ≡ (if b then cut_from (row ++ z ∷ []) (zs ++ x ∷ []) else row_items row ++ cut_from (z ∷ []) (zs ++ x ∷ [])) ++ cut_from (y ∷ []) behind
+        cut_from (row ++ z ∷ []) (zs ++ x ∷ y ∷ after) ≡ cut_from (row ++ z ∷ []) (zs ++ x ∷ []) ++ cut_from (y ∷ []) after →
+        cut_from (z ∷ []) (zs ++ x ∷ y ∷ after) ≡ cut_from (z ∷ []) (zs ++ x ∷ []) ++ cut_from (y ∷ []) after →
+        (if b then cut_from (row ++ z ∷ []) (zs ++ x ∷ y ∷ after) else row_items row ++ cut_from (z ∷ []) (zs ++ x ∷ y ∷ after))
+        ≡ (if b then cut_from (row ++ z ∷ []) (zs ++ x ∷ []) else row_items row ++ cut_from (z ∷ []) (zs ++ x ∷ [])) ++ cut_from (y ∷ []) after
     by_test true e f = e
     by_test false e f =
         ap (λ (xs : List CaptureItem). row_items row ++ xs) f
-        ∙ sym (append_assoc (row_items row) (cut_from (z ∷ []) (zs ++ x ∷ [])) (cut_from (y ∷ []) behind))
+        ∙ sym (append_assoc (row_items row) (cut_from (z ∷ []) (zs ++ x ∷ [])) (cut_from (y ∷ []) after))
 
 pub rows_are_cut_apart : RowsAreCutApart
 unfolding cut
-rows_are_cut_apart before behind x y apart = apart_from before [] behind x y apart
+rows_are_cut_apart before after x y apart = apart_from before [] after x y apart

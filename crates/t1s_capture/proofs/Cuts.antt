@@ -7,7 +7,7 @@ use Rattle.std.proofs.lemmas.List.{append-nil}
 use Rattle.std.proofs.lemmas.List.Concat.{flat_map-append}
 use Rattle.t1s_symbols.specs.declared.Quarter.{Quarter}
 use Rattle.t1s_grammar.specs.Prefixes.{Beginning, phase_of}
-use Rattle.t1s_grammar.specs.Steps.{start_phase, place_step, ends_burst}
+use Rattle.t1s_grammar.specs.PlaceTable.{start_phase, place_step, ends_burst}
 use Rattle.t1s_grammar.specs.declared.place.Phase.{Phase}
 use Rattle.t1s_grammar.specs.declared.place.PlaceFault.{PlaceFault}
 use Rattle.t1s_capture.specs.declared.row.ReadingSoFar.{ReadingSoFar}
@@ -16,7 +16,7 @@ use Rattle.t1s_capture.specs.declared.row.RowSoFar.TheVariants.{Empty, Silent, R
 use Rattle.t1s_capture.specs.Captures.{CaptureItem, Gap, Burst, Torn as TornBurst, no_symbols, symbol_count, symbol_octets, item_octets, count_octets, header, capture_text}
 use Rattle.t1s_capture.specs.Cut.{Tick, is_silent, AreSilent, IsRow, quarter_of, read_on, burst_or_torn, row_items, goes_on, cut_from, cut}
 use Rattle.t1s_symbols.specs.Quarters.{continues_last}
-use Rattle.t1s_capture.specs.Writing.{Step, reading, ticks_begun, symbol_ends, reading_step, nothing_read, blur_octets, row_end, sound_step, silent_step, row_step, row_from, row_after, IsKind, RowIsKind, WriterState, Writes}
+use Rattle.t1s_capture.specs.WriterTable.{Step, reading, ticks_begun, symbol_ends, reading_step, nothing_read, blur_octets, row_end, sound_step, silent_step, row_step, row_from, row_after, IsKind, RowIsKind, WriterState, WriterStands}
 use Rattle.t1s_capture.proofs.Rows.{end_octets, ReadsTo, row_reads, silent_from, started, partway, first_tick}
 
 -- ---- the text of a row
@@ -196,15 +196,15 @@ kind_push : (row : List Tick) (state : RowSoFar) (t : Tick) → RowIsKind row st
 kind_push [] state t h e = subst (λ (r : RowSoFar). IsKind (is_silent t) (row_step r t).0) (sym h) (first_kind t)
 kind_push (x ∷ xs) state t h e = same_kind state t (is_silent x) (goes_same x t xs e) h
 
--- the writer behind a tick
+-- the writer after a tick
 abbrev pub HeardBy : WriterState → Tick → WriterState → Type 0
 HeardBy old t new = new.row ≡ (row_step old.row t).0
 
-module _ (ticks : List Tick) (given : List ℕ) (old new : WriterState) (t : Tick) (w : Writes ticks given old) (is : HeardBy old t new) where
+module _ (ticks : List Tick) (given : List ℕ) (old new : WriterState) (t : Tick) (w : WriterStands ticks given old) (is : HeardBy old t new) where
   cut_on : (more : List Tick) → cut ((ticks ++ t ∷ []) ++ more) ≡ w.items ++ cut_from w.row (t ∷ more)
   cut_on more = ap cut (append_assoc ticks (t ∷ []) more) ∙ w.cuts (t ∷ more)
 
-  goes : goes_on w.row t ≡ true → Writes (ticks ++ t ∷ []) (given ++ (row_step old.row t).1) new
+  goes : goes_on w.row t ≡ true → WriterStands (ticks ++ t ∷ []) (given ++ (row_step old.row t).1) new
   goes e =
       let push : row_after (w.row ++ t ∷ []) ≡ ((row_step (row_after w.row).0 t).0, (row_after w.row).1 ++ (row_step (row_after w.row).0 t).1) = row_from-push w.row (Empty, []) t in
       record {
@@ -221,7 +221,7 @@ module _ (ticks : List Tick) (given : List ℕ) (old new : WriterState) (t : Tic
       }
 
   -- a new row
-  begins : (row_step old.row t ≡ ((row_step Empty t).0, row_end old.row)) → goes_on w.row t ≡ false → Writes (ticks ++ t ∷ []) (given ++ (row_step old.row t).1) new
+  begins : (row_step old.row t ≡ ((row_step Empty t).0, row_end old.row)) → goes_on w.row t ≡ false → WriterStands (ticks ++ t ∷ []) (given ++ (row_step old.row t).1) new
   begins s e = record {
     items = w.items ++ row_items w.row;
     row = t ∷ [];
@@ -241,20 +241,20 @@ module _ (ticks : List Tick) (given : List ℕ) (old new : WriterState) (t : Tic
         ∙ ap (λ (o : List ℕ). flat_map item_octets (w.items ++ row_items w.row) ++ o) (sym (first_gives t));
   }
 
-  pub writes_more : Writes (ticks ++ t ∷ []) (given ++ (row_step old.row t).1) new
-  writes_more = by_row w.row (goes_on w.row t) refl refl
+  pub writer_stands_more : WriterStands (ticks ++ t ∷ []) (given ++ (row_step old.row t).1) new
+  writer_stands_more = by_row w.row (goes_on w.row t) refl refl
     where
       ended : (row : List Tick) → w.row ≡ row → goes_on row t ≡ false → row_step old.row t ≡ ((row_step Empty t).0, row_end old.row)
       ended [] r e = cc
       ended (x ∷ xs) r e = switch old.row t (is_silent x) (goes_apart x t xs e) (subst (λ (ts : List Tick). RowIsKind ts old.row) r w.kind)
 
-      by_row : (row : List Tick) (b : Bool) → w.row ≡ row → goes_on w.row t ≡ b → Writes (ticks ++ t ∷ []) (given ++ (row_step old.row t).1) new
+      by_row : (row : List Tick) (b : Bool) → w.row ≡ row → goes_on w.row t ≡ b → WriterStands (ticks ++ t ∷ []) (given ++ (row_step old.row t).1) new
       by_row row true r e = goes e
       by_row row false r e = begins (ended w.row refl e) e
 
-pub writes_none : (w : WriterState) → w.row ≡ Empty → Writes [] [] w
+pub writer_stands_new : (w : WriterState) → w.row ≡ Empty → WriterStands [] [] w
 unfolding cut
-writes_none w e = record {
+writer_stands_new w e = record {
   items = [];
   row = [];
   cuts = λ more. refl;
@@ -266,7 +266,7 @@ writes_none w e = record {
 
 -- ---- the end
 
-pub written : (ticks : List Tick) (given : List ℕ) (w : WriterState) → Writes ticks given w →
+pub written : (ticks : List Tick) (given : List ℕ) (w : WriterState) → WriterStands ticks given w →
     header w.node ++ (given ++ (row_end w.row ++ 0x21 ∷ [])) ≡ capture_text w.node (cut ticks)
 written ticks given w h =
     let items : cut ticks ≡ h.items ++ row_items h.row = ap cut (sym (append-nil ticks)) ∙ h.cuts [] in

@@ -12,12 +12,12 @@ use Rattle.t1s_capture.specs.Offences.{IsFirstOf, reasons, Breaks, IsFirstOffenc
 pub shorter : (octets more : List ℕ) → IsCapturePrefix (octets ++ more) → IsCapturePrefix octets
 shorter octets more h = (more ++ h.0, subst (λ (o : List ℕ). IsCapture o) (append_assoc octets more h.0) h.1)
 
-pub front_begins : (octets : List ℕ) (n : ℕ) → IsCapturePrefix octets → IsCapturePrefix (take n octets)
-front_begins octets n h = shorter (take n octets) (drop n octets) (subst (λ (o : List ℕ). IsCapturePrefix o) (sym (take-append-drop n octets)) h)
+pub parts_begin : (octets : List ℕ) (n : ℕ) → IsCapturePrefix octets → IsCapturePrefix (take n octets)
+parts_begin octets n h = shorter (take n octets) (drop n octets) (subst (λ (o : List ℕ). IsCapturePrefix o) (sym (take-append-drop n octets)) h)
 
 -- so it breaks nowhere
 pub unbroken : (octets : List ℕ) (n : ℕ) → IsCapturePrefix octets → Breaks octets n → ⊥
-unbroken octets n h k = k.after (front_begins octets (n + 1) h)
+unbroken octets n h k = k.after (parts_begin octets (n + 1) h)
 
 -- what a first offence at the last octet says
 abbrev pub OffendsHere : List ℕ → ℕ → Why → Type 0
@@ -28,7 +28,7 @@ module _ (octets : List ℕ) (octet : ℕ) (begins : IsCapturePrefix octets) whe
   -- nor does one octet more break it any earlier
   unbroken_before : (m : ℕ) → m < length octets → Breaks (octets ++ octet ∷ []) m → ⊥
   unbroken_before m lt k =
-      k.after (subst (λ (o : List ℕ). IsCapturePrefix o) (sym (take-append-le (m + 1) octets (octet ∷ []) (omega arith))) (front_begins octets (m + 1) begins))
+      k.after (subst (λ (o : List ℕ). IsCapturePrefix o) (sym (take-append-le (m + 1) octets (octet ∷ []) (omega arith))) (parts_begin octets (m + 1) begins))
 
   all_taken : take (length octets + 1) (octets ++ octet ∷ []) ≡ octets ++ octet ∷ []
   all_taken = take-append-add octets (octet ∷ []) 1

@@ -1,7 +1,7 @@
-pub mod Growth
+pub mod WithSymbols
 pub mod Texts
-pub mod Marks
-pub mod Grow
+pub mod OctetKinds
+pub mod NextParts
 pub mod Sound
 pub mod ReadBack
 pub mod FirstOffences

@@ -9,16 +9,16 @@ use Rattle.t1s_symbols.specs.GroupTable.{group}
 use Rattle.t1s_symbols.specs.Symbols.{same_symbol}
 use Rattle.t1s_symbols.proofs.Quarters.{continues-partial, same_symbol-sound}
 use Rattle.t1s_grammar.specs.Prefixes.{Beginning, beginning_symbols, phase_of}
-use Rattle.t1s_grammar.specs.Steps.{place_step, ends_burst}
+use Rattle.t1s_grammar.specs.PlaceTable.{place_step, ends_burst}
 use Rattle.t1s_grammar.specs.declared.place.Phase.{Phase}
 use Rattle.t1s_grammar.specs.declared.place.PlaceFault.{PlaceFault}
 use Rattle.t1s_capture.specs.declared.row.RowSoFar.{RowSoFar}
 use Rattle.t1s_capture.specs.declared.row.RowSoFar.TheVariants.{Silent, Torn}
 use Rattle.t1s_capture.specs.Captures.{symbol_count, symbol_octets}
-use Rattle.t1s_capture.specs.Growing.{grown}
+use Rattle.t1s_grammar.specs.Longer.{with_symbol}
 use Rattle.t1s_capture.specs.Cut.{Tick, is_silent, AreSilent, quarter_of, is_part, symbol_by, on_place, on_symbol, read_on}
-use Rattle.t1s_capture.specs.Writing.{Step, reading, symbol_ends, reading_step, blur_octets, row_end, sound_step, silent_step, row_step, row_from}
-use Rattle.t1s_capture.proofs.Growth.{more}
+use Rattle.t1s_capture.specs.WriterTable.{Step, reading, symbol_ends, reading_step, blur_octets, row_end, sound_step, silent_step, row_step, row_from}
+use Rattle.t1s_grammar.proofs.Longer.{more}
 
 -- ---- silent rows
 
@@ -171,7 +171,7 @@ fourth_tick place (Some q) b c d =
 abbrev pub end_octets : Beginning → ℕ → List ℕ
 end_octets b n = if (n == 0) && ends_burst (phase_of b) then [] else blur_octets n
 
--- what is given out for ticks behind the symbols b, and what the end of the row then gives out
+-- what is given out for ticks after the symbols b, and what the end of the row then gives out
 pub record ReadsTo (step : Step) (b : Beginning) (out : List ℕ) (ts : List Tick) : Type 0 where
   pub given : List ℕ
   pub left : ℕ
@@ -183,7 +183,7 @@ pub record ReadsTo (step : Step) (b : Beginning) (out : List ℕ) (ts : List Tic
 to : (x y : Step) (b : Beginning) (out : List ℕ) (ts : List Tick) → x ≡ y → ReadsTo y b out ts → ReadsTo x b out ts
 to x y b out ts e h = subst (λ (s : Step). ReadsTo s b out ts) (sym e) h
 
--- ticks behind which no symbol is read
+-- ticks after which no symbol is read
 stays : (row : RowSoFar) (b : Beginning) (out : List ℕ) (ts : List Tick) (n : ℕ) → read_on b ts ≡ b → length ts ≡ n → row_end row ≡ end_octets b n → ReadsTo (row, out) b out ts
 stays row b out ts n same long e =
     subst (λ (c : Beginning). symbol_octets c ≡ symbol_octets b ++ [] → row_end row ≡ end_octets c n → 4 * symbol_count b + length ts ≡ 4 * symbol_count c + n → ReadsTo (row, out) b out ts)
@@ -270,10 +270,10 @@ row_reads (t ∷ u ∷ v ∷ w ∷ rest) b out h =
         ReadsTo (row_from ((symbol_ends s r).0, out ++ (symbol_ends s r).1) rest) b out (t ∷ u ∷ v ∷ w ∷ rest)
     by_place others s e (Ok q) k =
         let m = more b s q k in
-        let read : read_on b (t ∷ u ∷ v ∷ w ∷ rest) ≡ read_on (grown b s) rest =
+        let read : read_on b (t ∷ u ∷ v ∷ w ∷ rest) ≡ read_on (with_symbol b s) rest =
         ap (λ (o : Option Symbol). on_symbol b o (λ c. read_on c rest)) e ∙ ap (λ (x : Result Phase PlaceFault). on_place b s x (λ c. read_on c rest)) k in
-        symbol_row b (grown b s) s out (t ∷ u ∷ v ∷ w ∷ rest) rest (row_from (reading q None, out ++ group s ∷ []) rest) m.symbols read (omega arith)
-        (subst (λ (x : Phase). ReadsTo (row_from (reading x None, out ++ group s ∷ []) rest) (grown b s) (out ++ group s ∷ []) rest) m.phase (others (grown b s) (out ++ group s ∷ [])))
+        symbol_row b (with_symbol b s) s out (t ∷ u ∷ v ∷ w ∷ rest) rest (row_from (reading q None, out ++ group s ∷ []) rest) m.symbols read (omega arith)
+        (subst (λ (x : Phase). ReadsTo (row_from (reading x None, out ++ group s ∷ []) rest) (with_symbol b s) (out ++ group s ∷ []) rest) m.phase (others (with_symbol b s) (out ++ group s ∷ [])))
     by_place others s e (Err x) k =
         let read : read_on b (t ∷ u ∷ v ∷ w ∷ rest) ≡ b =
         ap (λ (o : Option Symbol). on_symbol b o (λ c. read_on c rest)) e ∙ ap (λ (x : Result Phase PlaceFault). on_place b s x (λ c. read_on c rest)) k in

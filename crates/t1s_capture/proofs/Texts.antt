@@ -7,7 +7,7 @@ use Rattle.std.proofs.lemmas.List.Concat.{flat_map-append}
 use Rattle.std.proofs.lemmas.List.Sums.{sum_by-append}
 use Rattle.std.proofs.lemmas.List.Elements.{All-head, All-append}
 use Rattle.t1s_capture.specs.Captures.{CaptureItem, count_octets, item_octets, item_ticks, IsItem, is_gap, AlternatesFrom, Alternates, IsItemList, ticks_of, header, begun_text}
-use Rattle.t1s_capture.specs.Advance.{count_of}
+use Rattle.t1s_capture.specs.DecoderTable.{count_of}
 use Rattle.t1s_capture.specs.Stands.{ends_with_gap}
 
 -- the octets of all items, one after another
@@ -61,11 +61,11 @@ no_last (y ∷ xs) x e = cc
 -- a list is empty, or has a last element
 pub data Ending {X : Type 0} (xs : List X) : Type 0 where
   empty : xs ≡ [] → Ending xs
-  last : (front : List X) → (x : X) → xs ≡ front ++ x ∷ [] → Ending xs
+  last : (parts : List X) → (x : X) → xs ≡ parts ++ x ∷ [] → Ending xs
 
 longer : {X : Type 0} (x : X) (xs : List X) → Ending xs → Ending (x ∷ xs)
 longer x xs (empty e) = last [] x (ap (λ ys. x ∷ ys) e)
-longer x xs (last front y e) = last (x ∷ front) y (ap (λ ys. x ∷ ys) e)
+longer x xs (last parts y e) = last (x ∷ parts) y (ap (λ ys. x ∷ ys) e)
 
 pub ending : {X : Type 0} (xs : List X) → Ending xs
 ending [] = empty refl
@@ -78,13 +78,13 @@ ends_with_gap-last (y ∷ z ∷ items) x = ends_with_gap-last (z ∷ items) x
 
 -- Alternation.
 
-AlternatesFrom-front : (w : CaptureItem) (xs ys : List CaptureItem) → AlternatesFrom w (xs ++ ys) → AlternatesFrom w xs
-AlternatesFrom-front w [] ys h = tt
-AlternatesFrom-front w (x ∷ xs) ys h = (h.0, AlternatesFrom-front x xs ys h.1)
+AlternatesFrom-before : (w : CaptureItem) (xs ys : List CaptureItem) → AlternatesFrom w (xs ++ ys) → AlternatesFrom w xs
+AlternatesFrom-before w [] ys h = tt
+AlternatesFrom-before w (x ∷ xs) ys h = (h.0, AlternatesFrom-before x xs ys h.1)
 
-pub Alternates-front : (xs ys : List CaptureItem) → Alternates (xs ++ ys) → Alternates xs
-Alternates-front [] ys h = tt
-Alternates-front (x ∷ xs) ys h = AlternatesFrom-front x xs ys h
+pub Alternates-before : (xs ys : List CaptureItem) → Alternates (xs ++ ys) → Alternates xs
+Alternates-before [] ys h = tt
+Alternates-before (x ∷ xs) ys h = AlternatesFrom-before x xs ys h
 
 AlternatesFrom-two : (w : CaptureItem) (xs : List CaptureItem) (x y : CaptureItem) (ys : List CaptureItem) →
     AlternatesFrom w ((xs ++ x ∷ []) ++ y ∷ ys) → is_gap x ≢ is_gap y
@@ -116,8 +116,8 @@ pub Alternates-like : (xs : List CaptureItem) (x y : CaptureItem) → is_gap x �
 Alternates-like [] x y e h = tt
 Alternates-like (z ∷ xs) x y e h = AlternatesFrom-like z xs x y e h
 
-pub All-front : (xs ys : List CaptureItem) → All IsItem (xs ++ ys) → All IsItem xs
-All-front xs ys h = λ k d lt. subst IsItem (get_or_append_left xs ys d k lt) (h k d (omega (arith, length-append xs ys)))
+pub All-before : (xs ys : List CaptureItem) → All IsItem (xs ++ ys) → All IsItem xs
+All-before xs ys h = λ k d lt. subst IsItem (get_or_append_left xs ys d k lt) (h k d (omega (arith, length-append xs ys)))
 
 pub All-back : (xs ys : List CaptureItem) → All IsItem (xs ++ ys) → All IsItem ys
 All-back xs ys h = λ k d lt. subst IsItem (get_or-append-add xs ys k d) (h (length xs + k) d (omega (arith, length-append xs ys)))
@@ -127,8 +127,8 @@ All-one x h zero d lt = h
 All-one x h (suc k) d lt = absurd (omega arith)
 
 -- the items in front, and the last item
-pub list_front : (xs ys : List CaptureItem) → IsItemList (xs ++ ys) → IsItemList xs
-list_front xs ys h = record { each = All-front xs ys h.each; alternate = Alternates-front xs ys h.alternate }
+pub list_before : (xs ys : List CaptureItem) → IsItemList (xs ++ ys) → IsItemList xs
+list_before xs ys h = record { each = All-before xs ys h.each; alternate = Alternates-before xs ys h.alternate }
 
 pub last_item : (xs : List CaptureItem) (x : CaptureItem) → IsItemList (xs ++ x ∷ []) → IsItem x
 last_item xs x h = All-head IsItem x [] (All-back xs (x ∷ []) h.each)
@@ -136,7 +136,7 @@ last_item xs x h = All-head IsItem x [] (All-back xs (x ∷ []) h.each)
 -- another last item, and one item more
 pub list_like : (xs : List CaptureItem) (x y : CaptureItem) → is_gap x ≡ is_gap y → IsItem y → IsItemList (xs ++ x ∷ []) → IsItemList (xs ++ y ∷ [])
 list_like xs x y e k h = record {
-  each = All-append IsItem xs (y ∷ []) (All-front xs (x ∷ []) h.each) (All-one y k);
+  each = All-append IsItem xs (y ∷ []) (All-before xs (x ∷ []) h.each) (All-one y k);
   alternate = Alternates-like xs x y e h.alternate;
 }
 

@@ -11,7 +11,7 @@ pub data CaptureItem : Type 0 where
   Gap : (ticks : ℕ) → CaptureItem
   -- the symbols of a burst
   Burst : (symbols : Beginning) → CaptureItem
-  -- the symbols with which a burst begins, and the ticks behind them that belong to no symbol
+  -- the symbols with which a burst begins, and the ticks after them that belong to no symbol
   Torn : (symbols : Beginning) → (blur : ℕ) → CaptureItem
 
 -- the beginning of a burst that has no symbol yet
@@ -43,7 +43,7 @@ item_ticks (Gap n) = n
 item_ticks (Burst b) = 4 * symbol_count b
 item_ticks (Torn b blur) = 4 * symbol_count b + blur
 
--- a burst that is torn without a symbol, or behind symbols that are a burst by themselves, has a blur of at least 1
+-- a burst that is torn without a symbol, or after symbols that are a burst by themselves, has a blur of at least 1
 abbrev pub NeedsBlur : Beginning → Type 0
 NeedsBlur b = (beginning_symbols b ≡ []) ⊎ IsBurst (beginning_symbols b)
 

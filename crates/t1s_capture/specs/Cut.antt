@@ -7,11 +7,11 @@ use Rattle.t1s_symbols.specs.declared.Heard.TheVariants.{Nothing, One, Many}
 use Rattle.t1s_symbols.specs.Symbols.{same_symbol}
 use Rattle.t1s_symbols.specs.Ranges.{IsHeard}
 use Rattle.t1s_grammar.specs.Prefixes.{Beginning, phase_of}
-use Rattle.t1s_grammar.specs.Steps.{place_step, ends_burst}
+use Rattle.t1s_grammar.specs.PlaceTable.{place_step, ends_burst}
 use Rattle.t1s_grammar.specs.declared.place.Phase.{Phase}
 use Rattle.t1s_grammar.specs.declared.place.PlaceFault.{PlaceFault}
 use Rattle.t1s_capture.specs.Captures.{CaptureItem, Gap, Burst, Torn, no_symbols, symbol_count, IsItemList, ticks_of}
-use Rattle.t1s_capture.specs.Growing.{grown}
+use Rattle.t1s_grammar.specs.Longer.{with_symbol}
 
 -- what a node hears in a tick, and whether it drives itself
 abbrev pub Tick : Type 0
@@ -57,14 +57,14 @@ symbol_by (Some q) b c d =
 
 -- go on with the symbols and one more, where it may stand there
 abbrev pub on_place : Beginning → Symbol → Result Phase PlaceFault → (Beginning → Beginning) → Beginning
-on_place b s (Ok place) next = next (grown b s)
+on_place b s (Ok place) next = next (with_symbol b s)
 on_place b s (Err fault) next = b
 
 abbrev pub on_symbol : Beginning → Option Symbol → (Beginning → Beginning) → Beginning
 on_symbol b None next = b
 on_symbol b (Some s) next = on_place b s (place_step (phase_of b) s) next
 
--- the symbols that are read from ticks, behind these: four ticks a symbol, up to the first four that are no symbol,
+-- the symbols that are read from ticks, after these: four ticks a symbol, up to the first four that are no symbol,
 -- or one that may not stand there
 abbrev pub read_on : Beginning → List Tick → Beginning
 read_on b (t ∷ u ∷ v ∷ w ∷ rest) =
@@ -72,7 +72,7 @@ read_on b (t ∷ u ∷ v ∷ w ∷ rest) =
 read_on b _ = b
 
 -- a row of ticks that are not silent is a burst, where its symbols are one and take all of its ticks; else it is a
--- torn burst, whose blur is the ticks behind the symbols
+-- torn burst, whose blur is the ticks after the symbols
 abbrev pub burst_or_torn : Beginning → ℕ → CaptureItem
 burst_or_torn b ticks =
     if (ticks == 4 * symbol_count b) && ends_burst (phase_of b) then Burst b else Torn b (ticks - 4 * symbol_count b)
@@ -88,7 +88,7 @@ abbrev pub goes_on : List Tick → Tick → Bool
 goes_on [] tick = true
 goes_on (t ∷ ts) tick = if is_silent t then is_silent tick else not (is_silent tick)
 
--- the items of a row that is begun and of the ticks behind it
+-- the items of a row that is begun and of the ticks after it
 abbrev pub cut_from : List Tick → List Tick → List CaptureItem
 cut_from row [] = row_items row
 cut_from row (t ∷ ts) = if goes_on row t then cut_from (row ++ t ∷ []) ts else row_items row ++ cut_from (t ∷ []) ts

@@ -16,7 +16,7 @@ part_tick s part = (One (record { sym = s; part = part }), false)
 abbrev pub symbol_ticks : Symbol → List Tick
 symbol_ticks s = part_tick s 0 ∷ part_tick s 1 ∷ part_tick s 2 ∷ part_tick s 3 ∷ []
 
--- A row is read as these symbols: they are heard one after another from its first tick on, and behind them some ticks
+-- A row is read as these symbols: they are heard one after another from its first tick on, and after them some ticks
 -- are left over, or none. They begin a burst; and where the ticks that are left over begin with one symbol more, no
 -- burst begins with it too.
 pub record IsReadAs (row : List Tick) (symbols : List Symbol) (left : List Tick) : Type 0 where
@@ -41,7 +41,7 @@ CutsReadWhatIsHeard = (row : List Tick) → row ≢ [] → AreSilent false row �
 abbrev pub SilenceIsOneGap : Type 0
 SilenceIsOneGap = (row : List Tick) → row ≢ [] → AreSilent true row → cut row ≡ Gap (length row) ∷ []
 
--- where silence begins or ends, what is before and what is behind are cut apart
+-- where silence begins or ends, what is before and what is after are cut apart
 abbrev pub RowsAreCutApart : Type 0
-RowsAreCutApart = (before behind : List Tick) (x y : Tick) → is_silent x ≢ is_silent y →
-    cut (before ++ x ∷ y ∷ behind) ≡ cut (before ++ x ∷ []) ++ cut (y ∷ behind)
+RowsAreCutApart = (before after : List Tick) (x y : Tick) → is_silent x ≢ is_silent y →
+    cut (before ++ x ∷ y ∷ after) ≡ cut (before ++ x ∷ []) ++ cut (y ∷ after)

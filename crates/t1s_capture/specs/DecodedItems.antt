@@ -5,8 +5,8 @@ use Rattle.t1s_grammar.specs.Burst.{Piece, IsBurst, pieces_symbols}
 use Rattle.t1s_grammar.specs.Prefixes.{Beginning, beginning_symbols, beacon, between, opened, within, ended}
 use Rattle.t1s_pcs_rx.specs.Views.{View, view_of}
 use Rattle.t1s_capture.specs.Captures.{CaptureItem, Torn, ticks_of, symbol_count}
-use Rattle.t1s_capture.specs.Pieces.{history_behind, pieces_nibbles}
-use Rattle.t1s_capture.specs.Fronts.{in_burst, after_torn, behind, AreMadeOf}
+use Rattle.t1s_capture.specs.Pieces.{items_history, pieces_nibbles}
+use Rattle.t1s_capture.specs.PrefixParts.{in_burst, after_torn, with_items, AreMadeOf}
 
 -- an item without its loan. Ticks count from the capture's start
 pub data DecodedItem : Type 0 where
@@ -24,7 +24,7 @@ frame_of_item (RunItem start end pieces) = []
 frame_of_item (BareItem start end) = []
 frame_of_item (TornItem start end symbols blur) = []
 
--- A piece ends with this octet, its closer. It starts with the first J of its lead, directly behind the closer of the
+-- A piece ends with this octet, its closer. It starts with the first J of its lead, directly after the closer of the
 -- piece before, or with the burst. Whether the burst is torn later does not matter.
 pub record IsPieceOctet (before : List ℕ) (octet start : ℕ) (view : View) : Type 0 where
   pub node : ℕ
@@ -32,9 +32,9 @@ pub record IsPieceOctet (before : List ℕ) (octet start : ℕ) (view : View) : 
   pub pieces : List Piece
   pub piece : Piece
   pub within_limit : length before < 2 ^ 30
-  pub made : AreMadeOf (before ++ octet ∷ []) (behind node items (in_burst (between (pieces ++ piece ∷ []) 0)))
+  pub made : AreMadeOf (before ++ octet ∷ []) (with_items node items (in_burst (between (pieces ++ piece ∷ []) 0)))
   pub starts : start ≡ ticks_of items + 4 * length (pieces_symbols pieces)
-  pub shows : view ≡ view_of (descrambler_after (history_behind items) (pieces_nibbles pieces)) piece
+  pub shows : view ≡ view_of (descrambler_after (items_history items) (pieces_nibbles pieces)) piece
 
 -- the item of a burst that starts at this tick
 abbrev pub burst_item : ℕ → Beginning → DecodedItem
@@ -52,7 +52,7 @@ pub record IsBurstOctet (before : List ℕ) (octet : ℕ) (item : DecodedItem) :
   pub items : List CaptureItem
   pub symbols : Beginning
   pub within_limit : length before < 2 ^ 30
-  pub made : AreMadeOf before (behind node items (in_burst symbols))
+  pub made : AreMadeOf before (with_items node items (in_burst symbols))
   pub burst : IsBurst (beginning_symbols symbols)
   pub next : (octet ≡ 0x20) ⊎ (octet ≡ 0x21)
   pub is : item ≡ burst_item (ticks_of items) symbols
@@ -63,12 +63,12 @@ pub record IsTornOctet (before : List ℕ) (octet start end symbols blur : ℕ) 
   pub items : List CaptureItem
   pub begun : Beginning
   pub within_limit : length before < 2 ^ 30
-  pub made : AreMadeOf (before ++ octet ∷ []) (behind node (items ++ Torn begun blur ∷ []) after_torn)
+  pub made : AreMadeOf (before ++ octet ∷ []) (with_items node (items ++ Torn begun blur ∷ []) after_torn)
   pub starts : start ≡ ticks_of items
   pub ends : end ≡ ticks_of items + (4 * symbol_count begun + blur)
   pub counted : symbols ≡ symbol_count begun
 
--- This octet, behind those before it, is the one at which the item is handed out. An octet past the limit hands out
+-- This octet, after those before it, is the one at which the item is handed out. An octet past the limit hands out
 -- nothing.
 abbrev pub IsItemOctet : List ℕ → ℕ → DecodedItem → Type 0
 IsItemOctet before octet (PieceItem start view) = IsPieceOctet before octet start view

@@ -1,7 +1,7 @@
 -- The item that a kept one is.
 use Rattle.t1s_pcs_rx.specs.Views.{View, view_shown}
 use Rattle.t1s_capture.specs.declared.items.Item.{Item}
-use Rattle.t1s_capture.specs.declared.items.Item.TheVariants.{Piece as LentPiece, Beacon as LentBeacon, Run as LentRun, Bare as LentBare, Torn as LentTorn}
+use Rattle.t1s_capture.specs.declared.items.Item.TheVariants.{Piece as ShownPiece, Beacon as ShownBeacon, Run as ShownRun, Bare as ShownBare, Torn as ShownTorn}
 use Rattle.t1s_capture.specs.declared.held_item.HeldPiece.{HeldPiece}
 use Rattle.t1s_capture.specs.declared.held_item.HeldItem.{HeldItem}
 use Rattle.t1s_capture.specs.declared.held_item.HeldItem.TheVariants.{Piece, Beacon, Run, Bare, Torn}
@@ -19,8 +19,8 @@ decoded_held_item (Torn start end symbols blur) = TornItem start end symbols blu
 
 -- what an item shows
 abbrev pub decoded_item : Item → DecodedItem
-decoded_item (LentPiece start view) = PieceItem start (view_shown view)
-decoded_item (LentBeacon start) = BeaconItem start
-decoded_item (LentRun start end pieces) = RunItem start end pieces
-decoded_item (LentBare start end) = BareItem start end
-decoded_item (LentTorn start end symbols blur) = TornItem start end symbols blur
+decoded_item (ShownPiece start view) = PieceItem start (view_shown view)
+decoded_item (ShownBeacon start) = BeaconItem start
+decoded_item (ShownRun start end pieces) = RunItem start end pieces
+decoded_item (ShownBare start end) = BareItem start end
+decoded_item (ShownTorn start end symbols blur) = TornItem start end symbols blur

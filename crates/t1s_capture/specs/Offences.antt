@@ -7,9 +7,9 @@ use Rattle.t1s_capture.specs.declared.items.Why.{Why}
 use Rattle.t1s_capture.specs.declared.items.Why.TheVariants.{Magic, Version, NodeByte, CountZero, GapTwice, Group, Place, BurstLong, Truncated, AfterEnd, TooLong}
 use Rattle.t1s_capture.specs.declared.stage.CountSoFar.TheVariants.{Three}
 use Rattle.t1s_capture.specs.Captures.{CaptureItem, Gap, NeedsBlur, no_symbols, IsCapture, IsCapturePrefix}
-use Rattle.t1s_capture.specs.Fronts.{Tail, in_gap, in_burst, in_blur, after_torn, behind, AreMadeOf}
+use Rattle.t1s_capture.specs.PrefixParts.{Tail, in_gap, in_burst, in_blur, after_torn, with_items, AreMadeOf}
 
--- an item or a symbol may be tried: behind the header, behind an item that is complete, and behind a symbol
+-- an item or a symbol may be tried: after the header, after an item that is complete, and after a symbol
 abbrev pub IsOpenTail : Tail → Type 0
 IsOpenTail (in_burst b) = Unit {0}
 IsOpenTail after_torn = Unit {0}
@@ -20,14 +20,14 @@ pub record IsOpen (octets : List ℕ) : Type 0 where
   pub items : List CaptureItem
   pub tail : Tail
   pub tried : IsOpenTail tail
-  pub made : AreMadeOf octets (behind node items tail)
+  pub made : AreMadeOf octets (with_items node items tail)
 
 -- octets whose last item is a gap, which is complete
 pub record EndsWithGap (octets : List ℕ) : Type 0 where
   pub node : ℕ
   pub items : List CaptureItem
   pub ticks : ℕ
-  pub made : AreMadeOf octets (behind node (items ++ Gap ticks ∷ []) (in_burst no_symbols))
+  pub made : AreMadeOf octets (with_items node (items ++ Gap ticks ∷ []) (in_burst no_symbols))
 
 -- a count that has to be at least 1, of which three octets are taken and are 0
 abbrev pub IsZeroCount : Tail → Type 0
@@ -40,7 +40,7 @@ pub record EndsInZeros (octets : List ℕ) : Type 0 where
   pub items : List CaptureItem
   pub tail : Tail
   pub zeros : IsZeroCount tail
-  pub made : AreMadeOf octets (behind node items tail)
+  pub made : AreMadeOf octets (with_items node items tail)
 
 -- the octet begins no item, ends none and is no symbol's group
 pub record IsUnknown (octet : ℕ) : Type 0 where
@@ -55,7 +55,7 @@ pub record GrowsTooLong (octets : List ℕ) (octet : ℕ) : Type 0 where
   pub items : List CaptureItem
   pub symbols : Beginning
   pub next : Symbol
-  pub made : AreMadeOf octets (behind node items (in_burst symbols))
+  pub made : AreMadeOf octets (with_items node items (in_burst symbols))
   pub group : symbol octet ≡ Some next
   pub too_long : IsTooLong (beginning_symbols symbols) next
 

@@ -29,9 +29,9 @@ item_nibbles item = nibbles_in (item_symbols item)
 abbrev pub item_pieces : CaptureItem → List Piece
 item_pieces item = whole_pieces (item_symbols item)
 
--- the history of the descrambler behind these items
-unfoldable pub history_behind : List CaptureItem → List Bool
-history_behind items = descrambler_after start_history (flat_map item_nibbles items)
+-- the history of the descrambler after these items
+unfoldable pub items_history : List CaptureItem → List Bool
+items_history items = descrambler_after start_history (flat_map item_nibbles items)
 
 -- the views of pieces that follow a history, one after another
 unfoldable pub piece_views : List Bool → List Piece → List View

@@ -3,7 +3,7 @@ use Rattle.std.specs.Prelude.{◌≡◌, ℕ, ◌+◌, ◌-◌, ◌*◌, ◌≤�
 use Rattle.t1s_symbols.specs.declared.Symbol.{Symbol}
 use Rattle.t1s_symbols.specs.declared.Symbol.TheVariants.{Nibble, J, K, T, R, H, N, S}
 use Rattle.t1s_grammar.specs.declared.place.Phase.{Phase}
-use Rattle.t1s_grammar.specs.Steps.{nibbles_at}
+use Rattle.t1s_grammar.specs.PlaceTable.{nibbles_at}
 use Rattle.t1s_capture.specs.declared.stage.CountSoFar.{CountSoFar}
 use Rattle.t1s_capture.specs.declared.stage.CountSoFar.TheVariants.{Nothing, One, Two, Three}
 use Rattle.t1s_capture.specs.declared.stage.BurstSoFar.{BurstSoFar}
@@ -29,9 +29,9 @@ octets_begun AfterTorn = 0
 octets_begun Ended = 0
 
 -- how many nibbles are kept
-abbrev pub nibbles_kept : Stage → ℕ
-nibbles_kept (InBurst burst) = nibbles_at burst.place - 9
-nibbles_kept _ = 0
+abbrev pub nibbles_held : Stage → ℕ
+nibbles_held (InBurst burst) = nibbles_at burst.place - 9
+nibbles_held _ = 0
 
 abbrev pub StageInRange : Stage → Type 0
 StageInRange (Magic n) = n < 4
@@ -48,11 +48,11 @@ pub record Fits (p : Progress) (stage : Stage) : Type 0 where
   pub torn : p.counts.torn ≤ p.taken
   pub pieces : p.counts.pieces ≤ p.taken
   pub good : p.counts.good ≤ p.taken
-  pub kept : length p.reader.kept ≡ nibbles_kept stage
-  pub room : length p.reader.kept ≤ 3047
+  pub heard : length p.reader.nibbles ≡ nibbles_held stage
+  pub room : length p.reader.nibbles ≤ 3047
   pub numbers : StageInRange stage
 
--- how many nibbles the piece that is begun has behind a symbol, where it had so many before
+-- how many nibbles the piece that is begun has after a symbol, where it had so many before
 abbrev pub NibblesAfter : Symbol → ℕ → Phase → Type 0
 NibblesAfter (Nibble n) before place = (before < 3056) × (nibbles_at place ≡ before + 1)
 NibblesAfter R before place = nibbles_at place ≡ 0
@@ -73,8 +73,8 @@ pub record FitsSymbol (p : Progress) (s : Symbol) (groups : ℕ) (burst : BurstS
   pub torn : p.counts.torn ≤ p.taken
   pub pieces : p.counts.pieces ≤ p.taken
   pub good : p.counts.good ≤ p.taken
-  pub kept : length p.reader.kept ≡ groups - 9
-  pub room : length p.reader.kept ≤ 3047
+  pub heard : length p.reader.nibbles ≡ groups - 9
+  pub room : length p.reader.nibbles ≤ 3047
   pub closed : burst.closed ≤ burst.symbols
   pub fewer : groups < burst.symbols
   pub nibbles : NibblesAfter s groups burst.place

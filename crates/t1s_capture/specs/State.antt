@@ -7,7 +7,7 @@ use Rattle.t1s_capture.specs.DecodedItems.{DecodedItem}
 -- the history of the descrambler, and the nibbles that are kept of the piece that has begun: those from the tenth on
 pub record ReaderState : Type 0 where
   pub history : List Bool
-  pub kept : List ℕ
+  pub nibbles : List ℕ
 
 -- `taken` octets were taken, `stage` is what they end in, and `counts` counts the items that are complete, and
 -- all pieces
@@ -17,7 +17,7 @@ pub record DecoderState : Type 0 where
   pub reader : ReaderState
   pub stage : Stage
 
--- an item, and the decoder that goes on behind it
+-- an item, and the decoder that goes on after it
 pub record HeldState : Type 0 where
   pub item : DecodedItem
   pub decoder : DecoderState

@@ -72,10 +72,10 @@ impl Decoder {
     ghost use Rattle.t1s_capture.specs.DecodedItems.{DecodedItem, IsItemOctet};
     ghost use Rattle.t1s_capture.specs.Offences.{IsFirstOffence};
     ghost use Rattle.t1s_capture.specs.Stands.{Stands, state_of};
-    ghost use Rattle.t1s_capture.specs.Fronts.{in_magic};
+    ghost use Rattle.t1s_capture.specs.PrefixParts.{in_magic};
     ghost use Rattle.t1s_capture.specs.Answers.{YieldsItem, IsCountedCapture, StandsAfter};
     ghost use Rattle.t1s_capture.specs.Ranges.{Fits};
-    ghost use Rattle.t1s_capture.specs.Advance.{advance, finished};
+    ghost use Rattle.t1s_capture.specs.DecoderTable.{advance, finished};
 
     /// A decoder that has taken no octet.
     pub fn new() -> Decoder
@@ -163,7 +163,7 @@ impl Held {
     ghost use Rattle.t1s_capture.specs.DecodedItems.{frame_of_item};
     ghost use Rattle.t1s_capture.specs.HeldItems.{decoded_held_item, decoded_item};
 
-    /// An item, and the decoder behind it.
+    /// An item, and the decoder after it.
     pub(crate) fn of(item: HeldItem, decoder: Decoder) -> Held
         ensures { result ≡ record { item = decoded_held_item item; decoder = decoder } }
     {
@@ -175,7 +175,7 @@ impl Held {
         ensures item { decoded_item result ≡ self.now.item }
         ensures fits { length (frame_of_item (decoded_item result)) ≤ 1522 }
     {
-        self.item.lent()
+        self.item.item()
     }
 
     /// Lets the item go. The decoder stands for all octets taken, the one that handed the item out among them.

@@ -46,7 +46,7 @@ pub enum HeldItem {
 }
 
 impl HeldPiece {
-    fn lent(&self) -> PieceView<'_>
+    fn view(&self) -> PieceView<'_>
         ensures view { view_shown result ≡ held_view self.now }
         ensures fits { length result.frame.now ≤ 1522 }
     {
@@ -62,14 +62,14 @@ impl HeldPiece {
 
 impl HeldItem {
     /// The item, with its frame lent.
-    pub fn lent(&self) -> Item<'_>
+    pub fn item(&self) -> Item<'_>
         ensures item { decoded_item result ≡ decoded_held_item self.now }
         ensures fits { length (frame_of_item (decoded_item result)) ≤ 1522 }
     {
         match self {
             HeldItem::Piece { start, piece } => Item::Piece {
                 start: *start,
-                view: piece.lent(),
+                view: piece.view(),
             },
             HeldItem::Beacon { start } => Item::Beacon { start: *start },
             HeldItem::Run { start, end, pieces } => Item::Run {

@@ -11,7 +11,7 @@ pub enum Why {
     NodeByte,
     /// A count that has to be at least 1 is 0.
     CountZero,
-    /// A gap stands directly behind a gap.
+    /// A gap stands directly after a gap.
     GapTwice,
     /// No item and no symbol has this octet.
     Group,
@@ -22,7 +22,7 @@ pub enum Why {
     BurstLong,
     /// The octets end before the capture does. It comes at the end of the input alone.
     Truncated,
-    /// An octet stands behind the capture's end.
+    /// An octet stands after the capture's end.
     AfterEnd,
     /// The capture has more than 2^30 octets.
     TooLong,
@@ -49,7 +49,7 @@ pub struct Counts {
 }
 
 /// An item of a capture. Ticks count from the capture's start: `start` is the first tick of the item, and `end` the
-/// tick behind its last.
+/// tick after its last.
 #[derive(Clone, Copy, PartialEq, Eq, Debug)]
 pub enum Item<'a> {
     /// A piece, by the first tick of its lead. It may stand in a burst that is torn later.
@@ -72,7 +72,7 @@ pub enum Item<'a> {
         start: u64,
         end: u64,
     },
-    /// A burst that was torn behind so many symbols, with so many ticks behind them that belong to none.
+    /// A burst that was torn after so many symbols, with so many ticks after them that belong to none.
     Torn {
         start: u64,
         end: u64,

@@ -19,7 +19,7 @@ pub fn cuts_are_captures()
     ensures { CutsAreCaptures }
 {}
 
-/// Where silence begins or ends, what is before and what is behind are cut apart.
+/// Where silence begins or ends, what is before and what is after are cut apart.
 pub fn rows_are_cut_apart()
     ensures { RowsAreCutApart }
 {}

@@ -2,14 +2,14 @@
 ghost use Rattle.std.specs.Prelude.{◌≡◌, ℕ, ◌+◌, ◌*◌, ◌^◌, ◌≤◌, ◌<◌, IsTrue, length};
 ghost use Rattle.t1s_symbols.specs.Ranges.{IsSymbol};
 ghost use Rattle.t1s_symbols.specs.declared.Symbol.TheVariants.{Nibble};
-ghost use Rattle.t1s_grammar.specs.Steps.{ends_burst, place_step};
+ghost use Rattle.t1s_grammar.specs.PlaceTable.{ends_burst, place_step};
 ghost use Rattle.t1s_pcs_rx.specs.Views.{closer_symbol};
 ghost use Rattle.t1s_capture.specs.declared.stage.CountSoFar.TheVariants.{Three};
 ghost use Rattle.t1s_capture.specs.declared.stage.Stage.TheVariants.{Magic, InGap, InBurst, InBlur, AfterTorn};
-ghost use Rattle.t1s_capture.specs.Advance.{refuses, goes, behind_octet, magic_step, gap_step, gap_ends, blur_step, blur_ends, counting, burst_ends, gap_here, end_here, torn_here, symbol_taken, symbol_judged, piece_ends, burst_step_by, torn_step_by, stage_step, with_ticks, with_torn, with_piece, with_whole, whole_item};
-ghost use Rattle.t1s_capture.specs.Ranges.{Fits, FitsSymbol, StageInRange, octets_begun, octets_counted, nibbles_kept};
+ghost use Rattle.t1s_capture.specs.DecoderTable.{refuses, goes, after_octet, magic_step, gap_step, gap_ends, blur_step, blur_ends, counting, burst_ends, gap_here, end_here, torn_here, symbol_taken, symbol_step, piece_ends, burst_step_by, torn_step_by, stage_step, with_ticks, with_torn, with_piece, with_whole, whole_item};
+ghost use Rattle.t1s_capture.specs.Ranges.{Fits, FitsSymbol, StageInRange, octets_begun, octets_counted, nibbles_held};
 ghost use Rattle.t1s_capture.specs.HeldItems.{decoded_held_item};
-ghost use Rattle.t1s_capture.specs.Marks.{MarkInRange};
+ghost use Rattle.t1s_capture.specs.OctetKinds.{OctetKindInRange};
 
 use crate::decoder::{Decoder, Held, Next};
 use crate::format::VERSION;
@@ -17,7 +17,7 @@ use crate::held_item::{HeldItem, HeldPiece};
 use crate::items::{Counts, Refusal, Why};
 use crate::reader::PieceReader;
 use crate::stage::{
-    BlurSoFar, BurstSoFar, CountSoFar, Mark, Stage, count_of, magic_octet, mark_of,
+    BlurSoFar, BurstSoFar, CountSoFar, OctetKind, Stage, count_of, kind_of_octet, magic_octet,
 };
 use t1s_grammar::PlaceFault;
 use t1s_pcs_rx::{Closer, Kind};
@@ -69,7 +69,7 @@ impl Counts {
         }
     }
 
-    /// The counts with a burst of so many pieces and so many J behind them.
+    /// The counts with a burst of so many pieces and so many J after them.
     fn with_whole(self, pieces: u16, lead: u16) -> Counts
         requires beacons { self.beacons + 1 < 2 ^ 64 }
         requires runs { self.runs + 1 < 2 ^ 64 }
@@ -95,7 +95,7 @@ impl Counts {
     }
 }
 
-/// The item of a whole burst of so many pieces and so many J behind them.
+/// The item of a whole burst of so many pieces and so many J after them.
 fn whole_item(pieces: u16, lead: u16, start: u64, end: u64) -> HeldItem
     ensures { decoded_held_item result ≡ whole_item pieces lead start end }
 {
@@ -129,14 +129,14 @@ impl Progress {
         requires fits { Fits (record { taken = self.taken + 1; counts = self.counts; reader = self.reader }) stage }
         ensures { result ≡ goes self stage }
     {
-        Next::More(self.behind_octet(stage))
+        Next::More(self.after_octet(stage))
     }
 
     /// One octet more.
-    fn behind_octet(self, stage: Stage) -> Decoder
+    fn after_octet(self, stage: Stage) -> Decoder
         requires below { self.taken < 2 ^ 30 }
         requires fits { Fits (record { taken = self.taken + 1; counts = self.counts; reader = self.reader }) stage }
-        ensures { result ≡ behind_octet self self.counts self.reader stage }
+        ensures { result ≡ after_octet self self.counts self.reader stage }
     {
         let Progress {
             taken,
@@ -166,9 +166,9 @@ impl Progress {
             Stage::Node if octet < NODES => self.goes(Stage::InBurst(BurstSoFar::none(false))),
             Stage::Node => self.refuses(Why::NodeByte),
             Stage::InGap(count) => self.in_gap(count, octet),
-            Stage::InBurst(burst) => self.in_burst(burst, mark_of(octet)),
+            Stage::InBurst(burst) => self.in_burst(burst, kind_of_octet(octet)),
             Stage::InBlur(blur) => self.in_blur(blur, octet),
-            Stage::AfterTorn => self.after_torn(mark_of(octet)),
+            Stage::AfterTorn => self.after_torn(kind_of_octet(octet)),
             Stage::Ended => self.refuses(Why::AfterEnd),
         }
     }
@@ -257,38 +257,38 @@ impl Progress {
             symbols: blur.symbols,
             blur: ticks as u64,
         };
-        Next::Held(Held::of(item, self.behind_octet(Stage::AfterTorn)))
+        Next::Held(Held::of(item, self.after_octet(Stage::AfterTorn)))
     }
 
-    fn after_torn(self, mark: Mark) -> Next
+    fn after_torn(self, octet_kind: OctetKind) -> Next
         requires below { self.taken < 2 ^ 30 }
         requires fits { Fits self AfterTorn }
-        ensures { result ≡ torn_step_by mark self }
+        ensures { result ≡ torn_step_by octet_kind self }
     {
-        match mark {
-            Mark::Gap => self.goes(Stage::InGap(CountSoFar::Nothing)),
-            Mark::End => self.goes(Stage::Ended),
-            Mark::Torn | Mark::Known(_) => self.refuses(Why::Place),
-            Mark::Unknown => self.refuses(Why::Group),
+        match octet_kind {
+            OctetKind::Gap => self.goes(Stage::InGap(CountSoFar::Nothing)),
+            OctetKind::End => self.goes(Stage::Ended),
+            OctetKind::Torn | OctetKind::Known(_) => self.refuses(Why::Place),
+            OctetKind::Unknown => self.refuses(Why::Group),
         }
     }
 
-    fn in_burst(self, burst: BurstSoFar, mark: Mark) -> Next
+    fn in_burst(self, burst: BurstSoFar, octet_kind: OctetKind) -> Next
         requires below { self.taken < 2 ^ 30 }
         requires fits { Fits self (InBurst burst) }
-        requires symbol { MarkInRange mark }
-        ensures { result ≡ burst_step_by mark self burst }
+        requires symbol { OctetKindInRange octet_kind }
+        ensures { result ≡ burst_step_by octet_kind self burst }
     {
-        match mark {
-            Mark::Gap => self.gap_here(burst),
-            Mark::End => self.end_here(burst),
-            Mark::Torn => self.torn_here(burst),
-            Mark::Known(symbol) => self.symbol_here(burst, symbol),
-            Mark::Unknown => self.refuses(Why::Group),
+        match octet_kind {
+            OctetKind::Gap => self.gap_here(burst),
+            OctetKind::End => self.end_here(burst),
+            OctetKind::Torn => self.torn_here(burst),
+            OctetKind::Known(symbol) => self.symbol_here(burst, symbol),
+            OctetKind::Unknown => self.refuses(Why::Group),
         }
     }
 
-    /// A gap begins behind these symbols.
+    /// A gap begins after these symbols.
     fn gap_here(self, burst: BurstSoFar) -> Next
         requires below { self.taken < 2 ^ 30 }
         requires fits { Fits self (InBurst burst) }
@@ -300,13 +300,13 @@ impl Progress {
         if burst.symbols != 0 {
             return self.refuses(Why::Place);
         }
-        if burst.behind_gap {
+        if burst.after_gap {
             return self.refuses(Why::GapTwice);
         }
         self.goes(Stage::InGap(CountSoFar::Nothing))
     }
 
-    /// The capture ends behind these symbols.
+    /// The capture ends after these symbols.
     fn end_here(self, burst: BurstSoFar) -> Next
         requires below { self.taken < 2 ^ 30 }
         requires fits { Fits self (InBurst burst) }
@@ -326,7 +326,7 @@ impl Progress {
         requires below { self.taken < 2 ^ 30 }
         requires fits { Fits self (InBurst burst) }
         requires begun { octets_begun stage ≤ 1 }
-        requires none { nibbles_kept stage ≡ 0 }
+        requires none { nibbles_held stage ≡ 0 }
         requires range { StageInRange stage }
         requires ends { IsTrue (ends_burst burst.place) }
         ensures { result ≡ burst_ends self burst stage }
@@ -337,10 +337,10 @@ impl Progress {
         let lead = burst.place.lead();
         self.counts = self.counts.with_ticks(lasts).with_whole(pieces, lead);
         let item = whole_item(pieces, lead, start, start + lasts);
-        Next::Held(Held::of(item, self.behind_octet(stage)))
+        Next::Held(Held::of(item, self.after_octet(stage)))
     }
 
-    /// The burst is torn behind these symbols.
+    /// The burst is torn after these symbols.
     fn torn_here(mut self, burst: BurstSoFar) -> Next
         requires below { self.taken < 2 ^ 30 }
         requires fits { Fits self (InBurst burst) }
@@ -358,7 +358,7 @@ impl Progress {
         requires below { self.taken < 2 ^ 30 }
         requires fits { Fits self (InBurst burst) }
         requires symbol { IsSymbol symbol }
-        ensures { result ≡ symbol_judged self burst symbol (place_step burst.place symbol) }
+        ensures { result ≡ symbol_step self burst symbol (place_step burst.place symbol) }
     {
         let lead = burst.place.lead();
         let groups = burst.place.nibbles();
@@ -366,7 +366,7 @@ impl Progress {
             place,
             symbols,
             closed,
-            behind_gap,
+            after_gap,
         } = burst;
         match place.take(symbol) {
             Ok(place) => self.symbol_taken(
@@ -377,7 +377,7 @@ impl Progress {
                     place,
                     symbols: symbols + 1,
                     closed,
-                    behind_gap,
+                    after_gap,
                 },
             ),
             Err(PlaceFault::TooLong) => self.refuses(Why::BurstLong),
@@ -429,16 +429,16 @@ impl Progress {
         let BurstSoFar {
             place,
             symbols,
-            behind_gap,
+            after_gap,
             ..
         } = burst;
         let stage = Stage::InBurst(BurstSoFar {
             place,
             symbols,
             closed: symbols,
-            behind_gap,
+            after_gap,
         });
         let item = HeldItem::Piece { start, piece };
-        Next::Held(Held::of(item, self.behind_octet(stage)))
+        Next::Held(Held::of(item, self.after_octet(stage)))
     }
 }

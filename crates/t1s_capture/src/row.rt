@@ -1,9 +1,9 @@
 //! The row of ticks that a writer is in: a gap, or a burst that it reads.
 ghost use Rattle.std.specs.Prelude.{◌≡◌, ◌≤◌, ◌+◌, ◌<◌, ◌∷◌, ℕ, IfSome};
 ghost use Rattle.t1s_symbols.specs.Ranges.{IsSymbol, IsQuarter};
-ghost use Rattle.t1s_grammar.specs.Steps.{place_step};
+ghost use Rattle.t1s_grammar.specs.PlaceTable.{place_step};
 ghost use Rattle.t1s_capture.specs.Captures.{count_octets};
-ghost use Rattle.t1s_capture.specs.Writing.{reading_step, quarter_step, symbol_ends, ticks_begun, nothing_read, reading_end, row_end, sound_step, silent_step, RowFits};
+ghost use Rattle.t1s_capture.specs.WriterTable.{reading_step, quarter_step, symbol_ends, ticks_begun, nothing_read, reading_end, row_end, sound_step, silent_step, RowFits};
 
 use crate::format::{GAP, TORN};
 use crate::octets::Octets;
@@ -16,7 +16,7 @@ const SYMBOL_TICKS: u32 = 4;
 /// A burst as it is read.
 #[derive(Drop)]
 pub struct ReadingSoFar {
-    /// The place in the grammar behind the symbols so far.
+    /// The place in the grammar after the symbols so far.
     pub place: Place,
     /// The last quarter of the symbol that has begun.
     pub last: Option<Quarter>,
@@ -31,7 +31,7 @@ pub enum RowSoFar {
     Silent(u32),
     /// A burst whose reading goes on.
     Reading(ReadingSoFar),
-    /// A burst whose reading has ended, with so many ticks behind its symbols.
+    /// A burst whose reading has ended, with so many ticks after its symbols.
     Torn(u32),
 }
 

@@ -1,8 +1,8 @@
 //! What the octets that a decoder has taken end in.
 ghost use Rattle.std.specs.Prelude.{◌≡◌, ◌<◌, slice_index, IfOk};
 ghost use Rattle.t1s_capture.specs.Captures.{magic};
-ghost use Rattle.t1s_capture.specs.Advance.{count_of, mark, no_burst};
-ghost use Rattle.t1s_capture.specs.Marks.{MarkInRange};
+ghost use Rattle.t1s_capture.specs.DecoderTable.{count_of, octet_kind, no_burst};
+ghost use Rattle.t1s_capture.specs.OctetKinds.{OctetKindInRange};
 
 use crate::format::{END, GAP, MAGIC, TORN};
 use t1s_grammar::Place;
@@ -20,14 +20,14 @@ pub enum CountSoFar {
 /// The symbols of a burst so far, or none yet.
 #[derive(Drop)]
 pub struct BurstSoFar {
-    /// The place in the grammar behind them.
+    /// The place in the grammar after them.
     pub place: Place,
     /// How many symbols there are.
     pub symbols: u64,
     /// How many of them stand before the piece that may come next.
     pub closed: u64,
     /// Whether a gap stands before them.
-    pub behind_gap: bool,
+    pub after_gap: bool,
 }
 
 /// The blur of a torn burst, of which some octets were taken.
@@ -51,19 +51,19 @@ pub enum Stage {
     Node,
     /// Within the count of a gap.
     InGap(CountSoFar),
-    /// Where a burst may begin, or behind a symbol.
+    /// Where a burst may begin, or after a symbol.
     InBurst(BurstSoFar),
     /// Within the count of a torn burst's blur.
     InBlur(BlurSoFar),
-    /// Behind a torn burst.
+    /// After a torn burst.
     AfterTorn,
-    /// Behind the capture's end.
+    /// After the capture's end.
     Ended,
 }
 
 /// What an octet is where an item or a symbol may be tried.
 #[derive(Clone, Copy)]
-pub enum Mark {
+pub enum OctetKind {
     Gap,
     End,
     Torn,
@@ -73,17 +73,17 @@ pub enum Mark {
     Unknown,
 }
 
-pub fn mark_of(octet: u8) -> Mark
-    ensures mark { result ≡ mark octet }
-    ensures symbol { MarkInRange result }
+pub fn kind_of_octet(octet: u8) -> OctetKind
+    ensures octet_kind { result ≡ octet_kind octet }
+    ensures symbol { OctetKindInRange result }
 {
     match octet {
-        GAP => Mark::Gap,
-        END => Mark::End,
-        TORN => Mark::Torn,
+        GAP => OctetKind::Gap,
+        END => OctetKind::End,
+        TORN => OctetKind::Torn,
         _ => match symbol_of(octet) {
-            Some(symbol) => Mark::Known(symbol),
-            None => Mark::Unknown,
+            Some(symbol) => OctetKind::Known(symbol),
+            None => OctetKind::Unknown,
         },
     }
 }
@@ -95,7 +95,7 @@ pub fn count_of(a: u8, b: u8, c: u8, d: u8) -> u32
     ((a as u32 * 256 + b as u32) * 256 + c as u32) * 256 + d as u32
 }
 
-/// The octet of `T1SC` behind so many of its octets.
+/// The octet of `T1SC` after so many of its octets.
 pub fn magic_octet(taken: u8) -> u8
     requires { taken < 4 }
     ensures { result ≡ slice_index magic taken }
@@ -105,14 +105,14 @@ pub fn magic_octet(taken: u8) -> u8
 
 impl BurstSoFar {
     /// No symbol yet.
-    pub fn none(behind_gap: bool) -> BurstSoFar
-        ensures { result ≡ no_burst behind_gap }
+    pub fn none(after_gap: bool) -> BurstSoFar
+        ensures { result ≡ no_burst after_gap }
     {
         BurstSoFar {
             place: Place::start(),
             symbols: 0,
             closed: 0,
-            behind_gap,
+            after_gap,
         }
     }
 }

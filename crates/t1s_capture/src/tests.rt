@@ -303,7 +303,7 @@ fn torn_bursts_are_read_with_their_blur(rt: HostRuntime) {
     }
 }
 
-/// What a decoder refuses behind a header, of octets each row of which stands so many times.
+/// What a decoder refuses after a header, of octets each row of which stands so many times.
 fn refusal(rows: &[(&[u8], u16)]) -> Option<Refusal> {
     let mut decoder = Decoder::new();
     for (row, times) in [(b"T1SC\x01\x02".as_slice(), 1)].iter().chain(rows.iter()) {

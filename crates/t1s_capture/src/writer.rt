@@ -16,11 +16,11 @@ pub struct CaptureWriter {
 }
 
 impl Model for CaptureWriter {
-    ghost use Rattle.t1s_capture.specs.Writing.{WriterState};
+    ghost use Rattle.t1s_capture.specs.WriterTable.{WriterState};
 
     ghost Value = { WriterState };
 
-    ghost use Rattle.t1s_capture.specs.Writing.{WriterFits};
+    ghost use Rattle.t1s_capture.specs.WriterTable.{WriterFits};
 
     ghost view = { λ w. record {
       node = w.node;
@@ -36,14 +36,14 @@ impl CaptureWriter {
     ghost use Rattle.t1s_symbols.specs.Ranges.{IsHeard};
     ghost use Rattle.t1s_capture.specs.Captures.{header, capture_text};
     ghost use Rattle.t1s_capture.specs.Cut.{Tick, cut};
-    ghost use Rattle.t1s_capture.specs.Writing.{Writes, row_step, row_end};
+    ghost use Rattle.t1s_capture.specs.WriterTable.{WriterStands, row_step, row_end};
     ghost use Rattle.t1s_capture.specs.declared.row.RowSoFar.TheVariants.{Empty};
 
     /// A writer for this node, whose number is below 16. No tick has been handed in.
     pub fn new(node: u8) -> CaptureWriter
         requires { node < 16 }
         ensures value { result ≡ record { node = node; ticks = 0; row = Empty } }
-        ensures stands { Writes [] [] result }
+        ensures stands { WriterStands [] [] result }
     {
         CaptureWriter {
             node,
@@ -66,23 +66,23 @@ impl CaptureWriter {
     }
 
     /// Takes what the node heard in the next tick, a nibble below 16 in a part below 4, and whether it drove in it. A
-    /// writer takes at most 2,000,000 ticks. The octets, at most 16, go behind those that were given out before. It
+    /// writer takes at most 2,000,000 ticks. The octets, at most 16, go after those that were given out before. It
     /// has no refusals.
     pub fn heard(&mut self, h: Heard, own: bool) -> Octets
         requires heard { IsHeard h }
         requires fewer { self.old.ticks < 2000000 }
         ensures node { self.new.node ≡ self.old.node }
         ensures ticks { self.new.ticks ≡ self.old.ticks + 1 }
-        ensures stands { (ticks : List Tick) (given : List ℕ) → Writes ticks given self.old
-            → Writes (ticks ++ (h, own) ∷ []) (given ++ result) self.new }
+        ensures stands { (ticks : List Tick) (given : List ℕ) → WriterStands ticks given self.old
+            → WriterStands (ticks ++ (h, own) ∷ []) (given ++ result) self.new }
     {
         self.go_on(h, own)
     }
 
-    /// The last octets, `21` behind what the row of the last tick still owes. The header, the octets that were given out
+    /// The last octets, `21` after what the row of the last tick still owes. The header, the octets that were given out
     /// for the ticks, and these are the text of the items that are cut from the ticks.
     pub fn finish(self) -> Octets
-        ensures text { (ticks : List Tick) (given : List ℕ) → Writes ticks given self
+        ensures text { (ticks : List Tick) (given : List ℕ) → WriterStands ticks given self
             → header self.node ++ (given ++ result) ≡ capture_text self.node (cut ticks) }
     {
         self.last_octets()

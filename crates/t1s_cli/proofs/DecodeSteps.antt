@@ -9,10 +9,10 @@ use Rattle.t1s_capture.specs.declared.decoder.Next.{Next}
 use Rattle.t1s_capture.specs.declared.decoder.Next.TheVariants.{More, Held, Refused}
 use Rattle.t1s_capture.specs.State.{DecoderState}
 use Rattle.t1s_capture.specs.Stands.{Stands, state_of}
-use Rattle.t1s_capture.specs.Fronts.{in_magic}
+use Rattle.t1s_capture.specs.PrefixParts.{in_magic}
 use Rattle.t1s_capture.specs.Offences.{IsFirstOffence}
 use Rattle.t1s_capture.specs.Answers.{YieldsItem, StandsAfter, IsCountedCapture}
-use Rattle.t1s_capture.specs.Advance.{advance, finished}
+use Rattle.t1s_capture.specs.DecoderTable.{advance, finished}
 use Rattle.t1s_capture.proofs.FirstOffences.{offends_at_end}
 use Rattle.t1s_capture.proofs.Steps.{begins, step_item, step_refused, step_stands, end_is, stands_new}
 use Rattle.t1s_capture.proofs.Beyond.{over_offence}

@@ -7,15 +7,15 @@ use Rattle.t1s_script.specs.declared.script.Script.{Script}
 use Rattle.t1s_segment.specs.World.{heard_by}
 use Rattle.t1s_capture.specs.Captures.{header, capture_text}
 use Rattle.t1s_capture.specs.Cut.{Tick, cut}
-use Rattle.t1s_capture.specs.Writing.{WriterState, Writes, row_step, row_end}
-use Rattle.t1s_capture.proofs.Cuts.{writes_more, written}
+use Rattle.t1s_capture.specs.WriterTable.{WriterState, WriterStands, row_step, row_end}
+use Rattle.t1s_capture.proofs.Cuts.{writer_stands_more, written}
 use Rattle.t1s_cli.specs.declared.writer.Writer.{Writer}
 use Rattle.t1s_cli.specs.HeardText.{ticks_heard, heard_text}
 use Rattle.t1s_cli.specs.Writing.{Puts}
 use Rattle.t1s_cli.proofs.Puts.{events_prefix, puts_more, puts_stopped}
 
 -- whatever ticks follow, what was given out so far stands behind the header, and more behind it
-text_begins : (more ticks : List Tick) (given : List ℕ) (w : WriterState) → Writes ticks given w →
+text_begins : (more ticks : List Tick) (given : List ℕ) (w : WriterState) → WriterStands ticks given w →
     (tail : List ℕ) × (capture_text w.node (cut (ticks ++ more)) ≡ (header w.node ++ given) ++ tail)
 text_begins [] ticks given w h =
     let tail : List ℕ = row_end w.row ++ 0x21 ∷ [] in (
@@ -25,7 +25,7 @@ text_begins [] ticks given w h =
 text_begins (t ∷ more) ticks given w h =
     let next : WriterState = record w { row = (row_step w.row t).0 } in
     let octets : List ℕ = (row_step w.row t).1 in
-    let (tail, is) = text_begins more (ticks ++ t ∷ []) (given ++ octets) next (writes_more ticks given w next t h refl) in (
+    let (tail, is) = text_begins more (ticks ++ t ∷ []) (given ++ octets) next (writer_stands_more ticks given w next t h refl) in (
       octets ++ tail,
       ap (λ (ts : List Tick). capture_text w.node (cut ts)) (sym (append_assoc ticks (t ∷ []) more))
           ∙ (is ∙ (ap (λ (xs : List ℕ). xs ++ tail) (sym (append_assoc (header w.node) given octets)) ∙ append_assoc (header w.node ++ given) octets tail)),
@@ -35,14 +35,14 @@ module _ {K : Type 0} (written_to : K → Option (List ℕ)) (faults : K → ℕ
   -- The ticks below t were handed in, and what was given out for them is put behind the header.
   pub record Recorded (s : Script) (node t : ℕ) (before : Writer K) (capture : WriterState) (after : Writer K) : Type 0 where
     pub given : List ℕ
-    pub writes : Writes (ticks_heard s node t) given capture
+    pub writes : WriterStands (ticks_heard s node t) given capture
     pub node_is : capture.node ≡ node
     pub few : capture.ticks ≤ t
     pub puts : Puts written_to faults before (header node ++ given) after
 
   -- nothing was handed in
   pub recorded_none : (s : Script) (node : ℕ) (before : Writer K) (capture : WriterState) (after : Writer K) →
-      Writes [] [] capture → capture.node ≡ node → capture.ticks ≡ 0 → Puts written_to faults before (header node) after → Recorded s node 0 before capture after
+      WriterStands [] [] capture → capture.node ≡ node → capture.ticks ≡ 0 → Puts written_to faults before (header node) after → Recorded s node 0 before capture after
   recorded_none s node before capture after writes node_is none puts = record {
     given = [];
     writes = rw (events_below-zero (λ u. option_to_list (heard_by s node u))) writes;
@@ -57,7 +57,7 @@ module _ {K : Type 0} (written_to : K → Option (List ℕ)) (faults : K → ℕ
 
     -- one tick more was handed in
     pub recorded_tick : (tick : Tick) (next : WriterState) (octets : List ℕ) (after : Writer K) → option_to_list (heard_by s node t) ≡ tick ∷ [] →
-        Writes (ticks_heard s node t ++ tick ∷ []) (h.given ++ octets) next → next.node ≡ capture.node → next.ticks ≡ capture.ticks + 1 → Puts written_to faults so_far octets after →
+        WriterStands (ticks_heard s node t ++ tick ∷ []) (h.given ++ octets) next → next.node ≡ capture.node → next.ticks ≡ capture.ticks + 1 → Puts written_to faults so_far octets after →
         Recorded s node (t + 1) before next after
     recorded_tick tick next octets after heard writes node_is more puts = record {
       given = h.given ++ octets;

@@ -41,16 +41,16 @@ pub at_delimiter : (xs : List ℕ) (i : ℕ) → i ≡ 15 → Some 13 ≡ slice_
 unfolding nibble_list
 at_delimiter xs i at = rw at refl
 
-behind : (xs : List ℕ) (i k : ℕ) → i ≡ 16 + k → slice_get (nibble_list xs) i ≡ slice_get (nibbles_of xs) k
+after_preamble : (xs : List ℕ) (i k : ℕ) → i ≡ 16 + k → slice_get (nibble_list xs) i ≡ slice_get (nibbles_of xs) k
 unfolding nibble_list
-behind xs i k at = slice_get-append (replicate 15 5 ++ 13 ∷ []) (nibbles_of xs) i k at
+after_preamble xs i k at = slice_get-append (replicate 15 5 ++ 13 ∷ []) (nibbles_of xs) i k at
 
 pub low_nibble : (xs : List ℕ) (i place : ℕ) → i ≡ 16 + place → place % 2 ≡ 0 → place / 2 < length xs
     → Some (get_or xs (place / 2) 0 % 16) ≡ slice_get (nibble_list xs) i
 low_nibble xs i place at digit below =
-    sym (behind xs i place at ∙ even xs place (place / 2) (omega arith) below)
+    sym (after_preamble xs i place at ∙ even xs place (place / 2) (omega arith) below)
 
 pub high_nibble : (xs : List ℕ) (i place : ℕ) → i ≡ 16 + place → place % 2 ≢ 0 → place / 2 < length xs
     → Some (get_or xs (place / 2) 0 / 16) ≡ slice_get (nibble_list xs) i
 high_nibble xs i place at digit below =
-    sym (behind xs i place at ∙ odd xs place (place / 2) (omega arith) below)
+    sym (after_preamble xs i place at ∙ odd xs place (place / 2) (omega arith) below)

@@ -107,7 +107,7 @@ even_from : (n : ℕ) → (n % 2 == 1) ≡ false → n % 2 ≡ 0
 even_from n test =
     let not_one : n % 2 ≢ 1 = eqb-false (n % 2) 1 test in omega arith
 
-delimiter_from : (ns : List ℕ) → starts_with nat_eq ns (5 ∷ 5 ∷ 13 ∷ []) ≡ true → ns ≡ 5 ∷ 5 ∷ 13 ∷ drop 3 ns
+pub delimiter_from : (ns : List ℕ) → starts_with nat_eq ns (5 ∷ 5 ∷ 13 ∷ []) ≡ true → ns ≡ 5 ∷ 5 ∷ 13 ∷ drop 3 ns
 delimiter_from ns test = (starts_is Decides-eqb ns (5 ∷ 5 ∷ 13 ∷ []) true (sym test)).0 refl
 
 good_only : (ns : List ℕ) → All IsNibble ns → length ns ≤ 3047 → arrival_of ns ≡ Good
@@ -153,7 +153,7 @@ pub good_exactly_for_frames : GoodExactlyForFrames
 good_exactly_for_frames ns all fits = (good_only ns all fits, λ (octets, frame, is). ap arrival_of is ∙ good_frame octets frame)
 
 -- ---- the rows, one by one
--- the rest of a slice behind the delimiter
+-- the rest of a slice after the delimiter
 pub take-drop_delimiter : (ns : List ℕ) → take (length ns - 3) (drop 3 ns) ≡ drop 3 ns
 take-drop_delimiter ns = take_all (length ns - 3) (drop 3 ns) (simp length-drop (omega arith))
 

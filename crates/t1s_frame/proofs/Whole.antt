@@ -19,7 +19,7 @@ check_octets-octets check =
     (All-cons IsOctet b (c ∷ d ∷ []) (omega arith)
     (All-cons IsOctet c (d ∷ []) (omega arith) (All-cons IsOctet d [] (omega arith) (All-nil IsOctet))))
 
--- octets, and behind them their check sequence
+-- octets, and after them their check sequence
 EndsWithCheck-append : (xs : List ℕ) → EndsWithCheck (xs ++ check_octets (frame_check xs))
 EndsWithCheck-append xs =
     let ys = check_octets (frame_check xs) in

@@ -128,7 +128,7 @@ impl Frame {
     }
 }
 
-/// Puts `octets`, for which there must be room, behind those that are held.
+/// Puts `octets`, for which there must be room, after those that are held.
 fn append(held: &mut ArrayVec<u8, LONGEST>, octets: &[u8])
     requires { array_vec_len held.old + length octets.now ≤ LONGEST }
     ensures { held.new.items ≡ held.old.items ++ octets.now }

@@ -1,4 +1,4 @@
--- Each beginning goes on to a burst, and a symbol that is taken makes a longer beginning.
+-- Each beginning goes on to a burst, and a `Place` that takes a symbol stands for the list with it.
 use Rattle.std.proofs.Common.{◌≡◌, refl, ℕ, zero, suc, ◌+◌, ◌-◌, ◌<◌, ◌≤◌, Bool, true, false, List, [], ◌∷◌, ◌++◌, length, map, replicate, Ok, Err, is_ok, nat_lt, if◌then◌else◌, sym, ap, ◌∙◌, arith, append_assoc, length-append}
 use Rattle.std.specs.Prelude.{All}
 use Rattle.std.proofs.lemmas.Grind.{common_steps, flat_map-append}
@@ -10,36 +10,14 @@ use Rattle.t1s_symbols.specs.declared.Symbol.TheVariants.{Nibble, J, K, T, R, H,
 use Rattle.t1s_symbols.specs.Ranges.{IsSymbol}
 use Rattle.t1s_grammar.specs.Burst.{Piece, IsPieceInRange, IsCloser, open_symbols, piece_symbols, pieces_symbols, IsBurst, BeginsBurst, beacon, run, bare}
 use Rattle.t1s_grammar.specs.Prefixes.{Beginning, beginning_symbols, IsBeginning, IsLead, ArePieces, AreNibbles, phase_of, Stands, beacon as in_beacon, between, opened, within, ended}
-use Rattle.t1s_grammar.specs.Steps.{start_phase, place_step, between_step, within_step, beacon_step, ended_step, opened_step, ends_burst}
-use Rattle.t1s_grammar.proofs.Judged.{Judgement, taken, refused, after, ends, after-append, after-err, after-burst, after-stands, some_pieces}
+use Rattle.t1s_grammar.specs.PlaceTable.{start_phase, place_step, between_step, within_step, beacon_step, ended_step, opened_step, ends_burst}
+use Rattle.t1s_grammar.specs.Longer.{with_symbol}
+use Rattle.t1s_grammar.proofs.Longer.{All-nil, more_pieces, ArePieces-push, open-append, refused-taken, taken-value, more}
+use Rattle.t1s_grammar.proofs.Judgements.{Judgement, taken, refused, after, ends, after-append, after-err, after-burst, after-stands, some_pieces}
 use Rattle.t1s_grammar.specs.declared.place.Phase.{Phase}
 use Rattle.t1s_grammar.specs.declared.place.Phase.TheVariants.{Beacon, Between, Opened, Within, Ended}
 use Rattle.t1s_grammar.specs.declared.place.PlaceFault.{PlaceFault}
 use Rattle.t1s_grammar.specs.declared.place.PlaceFault.TheVariants.{NotHere, TooLong}
-
-pub All-nil : {X : Type 0} (P : X → Type 0) → All P []
-All-nil P k d l = absurd (omega arith)
-
-All-one : {X : Type 0} (P : X → Type 0) (x : X) → P x → All P (x ∷ [])
-All-one P x h zero d l = h
-All-one P x h (suc k) d l = absurd (omega arith)
-
-one_more : {A : Type 0} (n : ℕ) (a : A) → replicate n a ++ a ∷ [] ≡ replicate (n + 1) a
-one_more n a = replicate-append-replicate n 1 a
-
--- ---- whole pieces, and one more
-
-pub more_pieces : (ps : List Piece) (p : Piece) → pieces_symbols (ps ++ p ∷ []) ≡ pieces_symbols ps ++ piece_symbols p
-more_pieces ps p =
-    flat_map-append piece_symbols ps (p ∷ []) ∙ ap (λ ss. pieces_symbols ps ++ ss) (append-nil (piece_symbols p))
-
-pub ArePieces-push : (ps : List Piece) (p : Piece) → ArePieces ps 4095 → IsPieceInRange p → ArePieces (ps ++ p ∷ []) 4096
-ArePieces-push ps p h here =
-    let few : length ps ≤ 4095 = h.count in
-    record {
-      count = omega (arith, length-append ps (p ∷ []));
-      in_range = All-append IsPieceInRange ps (p ∷ []) h.in_range (All-one IsPieceInRange p here);
-    }
 
 -- ---- a burst
 
@@ -127,11 +105,6 @@ padded_piece-in_range lead ns l h =
       closer = tt;
     }
 
-open-append : (lead : ℕ) (a b : List ℕ) → open_symbols lead (a ++ b) ≡ open_symbols lead a ++ map Nibble b
-open-append lead a b =
-    ap (λ ss. replicate lead J ++ H ∷ H ∷ ss) (map-append Nibble a b)
-    ∙ sym (append_assoc (replicate lead J) (H ∷ H ∷ map Nibble a) (map Nibble b))
-
 -- the second H of a piece
 open-second : (ps : List Piece) (lead : ℕ)
     → pieces_symbols ps ++ replicate lead J ++ H ∷ [] ++ H ∷ [] ≡ pieces_symbols ps ++ open_symbols lead []
@@ -186,147 +159,17 @@ BeginsBurst-stands symbols q h = rw h.spelled (BeginsBurst-beginning h.beginning
 
 -- ---- a symbol more
 
-taken-value : (x q : Phase) → taken x ≡ taken q → q ≡ x
-taken-value x q h = cc
-
-pub refused-taken : (e : PlaceFault) (q : Phase) → refused e ≡ taken q → ⊥
-refused-taken e q h = cc
-
--- a test that lets a symbol through
-let_through : (b : Bool) (x q : Phase) (e : PlaceFault) → (if b then taken x else refused e) ≡ taken q → (b ≡ true) × (q ≡ x)
-let_through true x q e h = (refl, taken-value x q h)
-let_through false x q e h = absurd (refused-taken e q h)
-
--- and one that stops it
-stopped : (b : Bool) (r : Judgement) (q : Phase) (e : PlaceFault)
-    → (if b then refused e else r) ≡ taken q → (b ≡ false) × (r ≡ taken q)
-stopped true r q e h = absurd (refused-taken e q h)
-stopped false r q e h = (refl, h)
-
-stand : (symbols : List Symbol) (q : Phase) (b : Beginning) → IsBeginning b → symbols ≡ beginning_symbols b
-    → q ≡ phase_of b → Stands symbols q
-stand symbols q b h s c = record { beginning = b; in_range = h; spelled = s; counted = c }
-
-Stands-beacon : (count : ℕ) (s : Symbol) (q : Phase) → IsBeginning (in_beacon count)
-    → beacon_step count s ≡ taken q → Stands (replicate count N ++ s ∷ []) q
-Stands-beacon count N q h e =
-    let through : (nat_lt count 5 ≡ true) × (q ≡ Beacon (count + 1)) = let_through (nat_lt count 5) (Beacon (count + 1)) q NotHere e in
-    let few : count < 5 = ltb-true count 5 through.0 in
-    stand (replicate count N ++ N ∷ []) q (in_beacon (count + 1)) (omega arith, omega arith) (one_more count N) through.1
-Stands-beacon count _ q h e = absurd (refused-taken NotHere q e)
-
-lead_more : (ps : List Piece) (lead : ℕ)
-    → pieces_symbols ps ++ replicate lead J ++ J ∷ [] ≡ pieces_symbols ps ++ replicate (lead + 1) J
-lead_more ps lead =
-    append_assoc (pieces_symbols ps) (replicate lead J) (J ∷ []) ∙ ap (λ ss. pieces_symbols ps ++ ss) (one_more lead J)
-
-Stands-N : (ps : List Piece) (lead : ℕ) (q : Phase)
-    → between_step (length ps) lead N ≡ taken q → Stands (pieces_symbols ps ++ replicate lead J ++ N ∷ []) q
-Stands-N [] zero q e =
-    stand (N ∷ []) q (in_beacon 1) (omega arith, omega arith) refl (taken-value (Beacon 1) q e)
-Stands-N [] (suc n) q e =
-    let none : refused NotHere ≡ taken q = grind (arith, common_steps) in absurd (refused-taken NotHere q none)
-Stands-N (p ∷ ps) lead q e =
-    let none : refused NotHere ≡ taken q = grind (arith, common_steps) in absurd (refused-taken NotHere q none)
-
-Stands-between : (ps : List Piece) (lead : ℕ) (s : Symbol) (q : Phase) → ArePieces ps 4096 → lead ≤ 4096
-    → between_step (length ps) lead s ≡ taken q → Stands (pieces_symbols ps ++ replicate lead J ++ s ∷ []) q
-Stands-between ps lead J q h l e =
-    let through : (nat_lt lead 4096 ≡ true) × (q ≡ Between (length ps) (lead + 1))
-    = let_through (nat_lt lead 4096) (Between (length ps) (lead + 1)) q TooLong e in
-    let few : lead < 4096 = ltb-true lead 4096 through.0 in
-    stand (pieces_symbols ps ++ replicate lead J ++ J ∷ []) q (between ps (lead + 1)) (h, omega arith) (lead_more ps lead) through.1
-Stands-between ps lead H q h l e =
-    let judged : Judgement = if nat_lt (length ps) 4096 then taken (Opened (length ps) lead) else refused TooLong in
-    let enough : (nat_lt lead 2 ≡ false) × (judged ≡ taken q) = stopped (nat_lt lead 2) judged q NotHere e in
-    let through : (nat_lt (length ps) 4096 ≡ true) × (q ≡ Opened (length ps) lead)
-    = let_through (nat_lt (length ps) 4096) (Opened (length ps) lead) q TooLong enough.1 in
-    let least : 2 ≤ lead = ltb-false lead 2 enough.0 in
-    let few : length ps < 4096 = ltb-true (length ps) 4096 through.0 in
-    stand (pieces_symbols ps ++ replicate lead J ++ H ∷ []) q (opened ps lead)
-    (record { count = omega arith; in_range = h.in_range }, record { least = least; most = l }) refl through.1
-Stands-between ps lead N q h l e = Stands-N ps lead q e
-Stands-between ps lead _ q h l e = absurd (refused-taken NotHere q e)
-
-Stands-opened : (ps : List Piece) (lead : ℕ) (s : Symbol) (q : Phase) → ArePieces ps 4095 → IsLead lead
-    → opened_step (length ps) lead s ≡ taken q → Stands (pieces_symbols ps ++ replicate lead J ++ H ∷ [] ++ s ∷ []) q
-Stands-opened ps lead H q h l e =
-    let none : AreNibbles [] 0 =
-    record { fewest = omega arith; most = omega arith; ranges = All-nil (λ n. n < 16) } in
-    stand (pieces_symbols ps ++ replicate lead J ++ H ∷ [] ++ H ∷ []) q (within ps lead []) (h, l, none) (open-second ps lead)
-    (taken-value (Within (length ps) lead 0) q e)
-Stands-opened ps lead _ q h l e = absurd (refused-taken NotHere q e)
-
--- the next nibble of a piece
-nibble_more : (ps : List Piece) (lead : ℕ) (ns : List ℕ) (n : ℕ)
-    → pieces_symbols ps ++ open_symbols lead ns ++ Nibble n ∷ [] ≡ pieces_symbols ps ++ open_symbols lead (ns ++ n ∷ [])
-nibble_more ps lead ns n =
-    append_assoc (pieces_symbols ps) (open_symbols lead ns) (Nibble n ∷ [])
-    ∙ ap (λ ss. pieces_symbols ps ++ ss) (sym (open-append lead ns (n ∷ [])))
-
-Stands-within : (ps : List Piece) (lead : ℕ) (ns : List ℕ) (s : Symbol) (q : Phase) → IsSymbol s
-    → ArePieces ps 4095 → IsLead lead → AreNibbles ns 0
-    → within_step (length ps) lead (length ns) s ≡ taken q → Stands (pieces_symbols ps ++ open_symbols lead ns ++ s ∷ []) q
-Stands-within ps lead ns (Nibble n) q i h l m e =
-    let through : (nat_lt (length ns) 3056 ≡ true) × (q ≡ Within (length ps) lead (length ns + 1))
-    = let_through (nat_lt (length ns) 3056) (Within (length ps) lead (length ns + 1)) q TooLong e in
-    let few : length ns < 3056 = ltb-true (length ns) 3056 through.0 in
-    let long : length (ns ++ n ∷ []) ≡ length ns + 1 = length-append ns (n ∷ []) in
-    let more : AreNibbles (ns ++ n ∷ []) 0 = record {
-      fewest = omega arith;
-      most = omega arith;
-      ranges = All-append (λ x. x < 16) ns (n ∷ []) m.ranges (All-one (λ x. x < 16) n i);
-    } in
-    stand (pieces_symbols ps ++ open_symbols lead ns ++ Nibble n ∷ []) q (within ps lead (ns ++ n ∷ [])) (h, l, more)
-    (nibble_more ps lead ns n) (through.1 ∙ ap (Within (length ps) lead) (sym long))
-Stands-within ps lead ns T q i h l m e =
-    let enough : (nat_lt (length ns) 9 ≡ false) × (taken (Ended (length ps) lead (length ns)) ≡ taken q)
-    = stopped (nat_lt (length ns) 9) (taken (Ended (length ps) lead (length ns))) q NotHere e in
-    let least : 9 ≤ length ns = ltb-false (length ns) 9 enough.0 in
-    stand (pieces_symbols ps ++ open_symbols lead ns ++ T ∷ []) q (ended ps lead ns)
-    (h, l, record { fewest = least; most = m.most; ranges = m.ranges }) refl
-    (taken-value (Ended (length ps) lead (length ns)) q enough.1)
-Stands-within ps lead ns _ q i h l m e = absurd (refused-taken NotHere q e)
-
-Stands-closer : (ps : List Piece) (lead : ℕ) (ns : List ℕ) (s : Symbol) (q : Phase) → IsCloser s
-    → ArePieces ps 4095 → IsLead lead → AreNibbles ns 9 → q ≡ Between (length ps + 1) 0
-    → Stands (pieces_symbols ps ++ open_symbols lead ns ++ T ∷ [] ++ s ∷ []) q
-Stands-closer ps lead ns s q c h l m e =
-    let p : Piece = record { lead = lead; nibbles = ns; closer = s } in
-    let here : IsPieceInRange p = record {
-      least_lead = l.least;
-      most_lead = l.most;
-      least_nibbles = m.fewest;
-      most_nibbles = m.most;
-      nibbles = m.ranges;
-      closer = c;
-    } in
-    stand (pieces_symbols ps ++ open_symbols lead ns ++ T ∷ [] ++ s ∷ []) q (between (ps ++ p ∷ []) 0)
-    (ArePieces-push ps p h here, omega arith)
-    (close-piece ps p ∙ sym (append-nil (pieces_symbols (ps ++ p ∷ [])) ∙ more_pieces ps p))
-    (e ∙ ap (λ n. Between n 0) (sym (length-append ps (p ∷ []))))
-
-Stands-ended : (ps : List Piece) (lead : ℕ) (ns : List ℕ) (s : Symbol) (q : Phase)
-    → ArePieces ps 4095 → IsLead lead → AreNibbles ns 9
-    → ended_step (length ps) s ≡ taken q → Stands (pieces_symbols ps ++ open_symbols lead ns ++ T ∷ [] ++ s ∷ []) q
-Stands-ended ps lead ns R q h l m e = Stands-closer ps lead ns R q tt h l m (taken-value (Between (length ps + 1) 0) q e)
-Stands-ended ps lead ns K q h l m e = Stands-closer ps lead ns K q tt h l m (taken-value (Between (length ps + 1) 0) q e)
-Stands-ended ps lead ns S q h l m e = Stands-closer ps lead ns S q tt h l m (taken-value (Between (length ps + 1) 0) q e)
-Stands-ended ps lead ns _ q h l m e = absurd (refused-taken NotHere q e)
-
-Stands-beginning : (b : Beginning) (s : Symbol) (q : Phase) → IsSymbol s → IsBeginning b
-    → place_step (phase_of b) s ≡ taken q → Stands (beginning_symbols b ++ s ∷ []) q
-Stands-beginning (in_beacon count) s q i h e = Stands-beacon count s q h e
-Stands-beginning (between ps lead) s q i h e = Stands-between ps lead s q h.0 h.1 e
-Stands-beginning (opened ps lead) s q i h e = Stands-opened ps lead s q h.0 h.1 e
-Stands-beginning (within ps lead ns) s q i h e = Stands-within ps lead ns s q i h.0 h.1 h.2 e
-Stands-beginning (ended ps lead ns) s q i h e = Stands-ended ps lead ns s q h.0 h.1 h.2 e
-
 -- what is taken stands for the list with it
 pub Stands-take : (symbols : List Symbol) (p q : Phase) (s : Symbol) → IsSymbol s → Stands symbols p
     → place_step p s ≡ Ok q → Stands (symbols ++ s ∷ []) q
 Stands-take symbols p q s i h e =
-    rw h.spelled (Stands-beginning h.beginning s q i h.in_range (ap (λ x. place_step x s) (sym h.counted) ∙ e))
+    let m = more h.beginning s q (ap (λ x. place_step x s) (sym h.counted) ∙ e) in
+    record {
+      beginning = with_symbol h.beginning s;
+      in_range = m.in_range h.in_range i;
+      spelled = ap (λ ss. ss ++ s ∷ []) h.spelled ∙ sym m.symbols;
+      counted = sym m.phase;
+    }
 
 ok_before : (more : List Symbol) (r : Judgement) → ends (after more r) ≡ true → is_ok r ≡ true
 ok_before more (Ok q) h = refl
@@ -348,4 +191,9 @@ stands-burst symbols q h b = sym (ap ends (after-stands symbols q h)) ∙ after-
 
 pub Stands-start : Stands [] start_phase
 Stands-start =
-    stand [] start_phase (between [] 0) (record { count = omega arith; in_range = All-nil IsPieceInRange }, omega arith) refl refl
+    record {
+      beginning = between [] 0;
+      in_range = (record { count = omega arith; in_range = All-nil IsPieceInRange }, omega arith);
+      spelled = refl;
+      counted = refl;
+    }

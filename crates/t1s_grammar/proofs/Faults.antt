@@ -6,9 +6,9 @@ use Rattle.t1s_symbols.specs.declared.Symbol.{Symbol}
 use Rattle.t1s_symbols.specs.declared.Symbol.TheVariants.{Nibble, J, K, T, R, H, N, S}
 use Rattle.t1s_grammar.specs.Burst.{Piece, IsPieceInRange, open_symbols, pieces_symbols}
 use Rattle.t1s_grammar.specs.Prefixes.{Beginning, beginning_symbols, IsBeginning, ArePieces, AreNibbles, phase_of, Stands, IsTooLong, beacon as in_beacon, between, opened, within, ended}
-use Rattle.t1s_grammar.specs.Steps.{start_phase, place_step, between_step, within_step, beacon_step, ended_step, opened_step}
-use Rattle.t1s_grammar.proofs.Judged.{Judgement, taken, refused, after, after-append, after-err, after-run, after-stands}
-use Rattle.t1s_grammar.proofs.Beginnings.{refused-taken}
+use Rattle.t1s_grammar.specs.PlaceTable.{start_phase, place_step, between_step, within_step, beacon_step, ended_step, opened_step}
+use Rattle.t1s_grammar.proofs.Judgements.{Judgement, taken, refused, after, after-append, after-err, after-run, after-stands}
+use Rattle.t1s_grammar.proofs.Longer.{refused-taken}
 use Rattle.t1s_grammar.specs.declared.place.Phase.{Phase}
 use Rattle.t1s_grammar.specs.declared.place.Phase.TheVariants.{Beacon, Between, Opened, Within, Ended}
 use Rattle.t1s_grammar.specs.declared.place.PlaceFault.{PlaceFault}
@@ -26,18 +26,18 @@ too_long_by true q h = absurd (taken-refused q TooLong h)
 too_long_by false q h = refl
 
 -- a test whose failure is not
-behind_test : (b : Bool) (r : Judgement) → (if b then refused NotHere else r) ≡ refused TooLong
+after_test : (b : Bool) (r : Judgement) → (if b then refused NotHere else r) ≡ refused TooLong
     → (b ≡ false) × (r ≡ refused TooLong)
-behind_test true r h = absurd (not_here h)
-behind_test false r h = (refl, h)
+after_test true r h = absurd (not_here h)
+after_test false r h = (refl, h)
 
 never_by : (b : Bool) (q : Phase) → (if b then taken q else refused NotHere) ≡ refused TooLong → ⊥
 never_by true q h = taken-refused q TooLong h
 never_by false q h = not_here h
 
-never_behind : (b : Bool) (q : Phase) → (if b then refused NotHere else taken q) ≡ refused TooLong → ⊥
-never_behind true q h = not_here h
-never_behind false q h = taken-refused q TooLong h
+never_after : (b : Bool) (q : Phase) → (if b then refused NotHere else taken q) ≡ refused TooLong → ⊥
+never_after true q h = not_here h
+never_after false q h = taken-refused q TooLong h
 
 -- ---- what is refused as too long is so
 
@@ -51,8 +51,8 @@ between-too_long ps lead J h l e =
     let most : 4096 ≤ lead = ltb-false lead 4096 (too_long_by (nat_lt lead 4096) (Between (length ps) (lead + 1)) e) in
     (pieces_symbols ps, lead, omega arith, refl)
 between-too_long ps lead H h l e =
-    let judged : Judgement = if nat_lt (length ps) 4096 then taken (Opened (length ps) lead) else refused TooLong in
-    let enough : (nat_lt lead 2 ≡ false) × (judged ≡ refused TooLong) = behind_test (nat_lt lead 2) judged e in
+    let judgement : Judgement = if nat_lt (length ps) 4096 then taken (Opened (length ps) lead) else refused TooLong in
+    let enough : (nat_lt lead 2 ≡ false) × (judgement ≡ refused TooLong) = after_test (nat_lt lead 2) judgement e in
     let least : 2 ≤ lead = ltb-false lead 2 enough.0 in
     let many : 4096 ≤ length ps
     = ltb-false (length ps) 4096 (too_long_by (nat_lt (length ps) 4096) (Opened (length ps) lead) enough.1) in
@@ -73,7 +73,7 @@ within-too_long ps lead ns (Nibble n) m e =
     let few : length ns ≤ 3056 = m.most in
     (pieces_symbols ps ++ replicate lead J, ns, omega arith, sym (append_assoc (pieces_symbols ps) (replicate lead J) (H ∷ H ∷ map Nibble ns)))
 within-too_long ps lead ns T m e =
-    absurd (never_behind (nat_lt (length ns) 9) (Ended (length ps) lead (length ns)) e)
+    absurd (never_after (nat_lt (length ns) 9) (Ended (length ps) lead (length ns)) e)
 within-too_long ps lead ns _ m e = absurd (not_here e)
 
 ended-too_long : (closed : ℕ) (s : Symbol) → ended_step closed s ≡ refused TooLong → ⊥
@@ -101,7 +101,7 @@ IsTooLong-stands symbols p s h e =
 dead : {A : Type 0} (ss : List Symbol) (e : PlaceFault) (q : Phase) → after ss (refused e) ≡ taken q → A
 dead ss e q h = absurd (refused-taken e q (sym (after-err ss e) ∙ h))
 
--- where a list is taken behind a test, the test let through
+-- where a list is taken after a test, the test let through
 past_test : (ss : List Symbol) (b : Bool) (x q : Phase) (e : PlaceFault)
     → after ss (if b then taken x else refused e) ≡ taken q → after ss (taken x) ≡ taken q
 past_test ss true x q e h = h
@@ -135,7 +135,7 @@ nibbles-counted (n ∷ ns) closed lead i q h =
     (past_test (map Nibble ns) (nat_lt i 3056) (Within closed lead (i + 1)) q TooLong h)
     ∙ ap (Within closed lead) same
 
--- behind some J more, where they are taken
+-- after some J more, where they are taken
 leads-refused : (r : Judgement) (n : ℕ) (q : Phase) → n ≡ 4096 → after (replicate n J) r ≡ taken q
     → place_step q J ≡ refused TooLong
 leads-refused r zero q many h = absurd (omega arith)
@@ -148,16 +148,16 @@ leads-refused (Ok (Opened closed lead)) (suc n) q many h = dead (replicate n J) 
 leads-refused (Ok (Within closed lead count)) (suc n) q many h = dead (replicate n J) NotHere q h
 leads-refused (Ok (Ended closed lead count)) (suc n) q many h = dead (replicate n J) NotHere q h
 
--- behind the H of a piece and its nibbles, where they are taken
+-- after the H of a piece and its nibbles, where they are taken
 nibbles-refused : (r : Judgement) (ns : List ℕ) (n : ℕ) (q : Phase) → length ns ≡ 3056
     → after (H ∷ H ∷ map Nibble ns) r ≡ taken q → place_step q (Nibble n) ≡ refused TooLong
 nibbles-refused (Err e) ns n q many h = dead (H ∷ H ∷ map Nibble ns) e q h
 nibbles-refused (Ok (Beacon count)) ns n q many h = dead (H ∷ map Nibble ns) NotHere q h
 nibbles-refused (Ok (Between closed lead)) ns n q many h =
     let ss : List Symbol = H ∷ map Nibble ns in
-    let judged : Judgement = if nat_lt closed 4096 then taken (Opened closed lead) else refused TooLong in
+    let judgement : Judgement = if nat_lt closed 4096 then taken (Opened closed lead) else refused TooLong in
     let opened_at : after ss (taken (Opened closed lead)) ≡ taken q
-    = past_test ss (nat_lt closed 4096) (Opened closed lead) q TooLong (past_refusal ss (nat_lt lead 2) judged q NotHere h) in
+    = past_test ss (nat_lt closed 4096) (Opened closed lead) q TooLong (past_refusal ss (nat_lt lead 2) judgement q NotHere h) in
     let full : nat_lt (0 + length ns) 3056 ≡ false = le-ltb (0 + length ns) 3056 (omega arith) in
     rw (nibbles-counted ns closed lead 0 q opened_at, full) refl
 nibbles-refused (Ok (Opened closed lead)) ns n q many h = dead (map Nibble ns) NotHere q h
@@ -173,23 +173,23 @@ pieces-refused ps lead q many h least e =
     let full : nat_lt (length ps) 4096 ≡ false = le-ltb (length ps) 4096 (omega arith) in
     rw (here, enough, full) refl
 
--- the end of a list that is taken is taken behind the rest
+-- the end of a list that is taken is taken after the rest
 end_taken : (symbols before ss : List Symbol) (q : Phase) → symbols ≡ before ++ ss
     → after symbols (taken start_phase) ≡ taken q → after ss (after before (taken start_phase)) ≡ taken q
 end_taken symbols before ss q e h =
     sym (ap (λ xs. after xs (taken start_phase)) e ∙ after-append before ss (taken start_phase)) ∙ h
 
-judged-too_long : (symbols : List Symbol) (q : Phase) (s : Symbol) → after symbols (taken start_phase) ≡ taken q
+judgement-too_long : (symbols : List Symbol) (q : Phase) (s : Symbol) → after symbols (taken start_phase) ≡ taken q
     → IsTooLong symbols s → place_step q s ≡ refused TooLong
-judged-too_long symbols q (Nibble n) e h =
+judgement-too_long symbols q (Nibble n) e h =
     nibbles-refused (after h.0 (taken start_phase)) h.1 n q h.2
     (end_taken symbols h.0 (H ∷ H ∷ map Nibble h.1) q h.3 e)
-judged-too_long symbols q J e h =
+judgement-too_long symbols q J e h =
     leads-refused (after h.0 (taken start_phase)) h.1 q h.2 (end_taken symbols h.0 (replicate h.1 J) q h.3 e)
-judged-too_long symbols q H e h =
+judgement-too_long symbols q H e h =
     pieces-refused h.0 h.1 q h.2 h.3 h.4 (sym (ap (λ xs. after xs (taken start_phase)) h.5) ∙ e)
-judged-too_long symbols q _ e h = absurd h
+judgement-too_long symbols q _ e h = absurd h
 
 pub stands-too_long : (symbols : List Symbol) (p : Phase) (s : Symbol) → Stands symbols p
     → IsTooLong symbols s → place_step p s ≡ Err TooLong
-stands-too_long symbols p s h e = judged-too_long symbols p s (after-stands symbols p h) e
+stands-too_long symbols p s h e = judgement-too_long symbols p s (after-stands symbols p h) e

@@ -1,4 +1,5 @@
-pub mod Judged
+pub mod Judgements
+pub mod Longer
 pub mod Beginnings
 pub mod Faults
 pub mod Sent

@@ -14,7 +14,8 @@ use Rattle.t1s_grammar.specs.Burst.{Piece, IsPieceInRange, IsCloser, IsBurst, pi
 use Rattle.t1s_grammar.specs.Sent.{carried_nibbles, sent_piece, sent_closer}
 use Rattle.t1s_grammar.specs.Reading.{heard_nibbles, kind_of, kind_by, classified, StandsForFrame}
 use Rattle.t1s_grammar.specs.Laws.{SentPiecesAreRead}
-use Rattle.t1s_grammar.proofs.Beginnings.{All-nil, IsBurst-pieces}
+use Rattle.t1s_grammar.proofs.Longer.{All-nil}
+use Rattle.t1s_grammar.proofs.Beginnings.{IsBurst-pieces}
 
 abbrev IsNibble : ℕ → Type 0
 IsNibble n = n < 16

@@ -1,6 +1,7 @@
 pub mod Burst
 pub mod Prefixes
-pub mod Steps
+pub mod PlaceTable
+pub mod Longer
 pub mod Sent
 pub mod Reading
 pub mod Laws

@@ -46,7 +46,7 @@ IsBeginning (opened pieces lead) = ArePieces pieces 4095 × IsLead lead
 IsBeginning (within pieces lead nibbles) = ArePieces pieces 4095 × IsLead lead × AreNibbles nibbles 0
 IsBeginning (ended pieces lead nibbles) = ArePieces pieces 4095 × IsLead lead × AreNibbles nibbles 9
 
--- the whole pieces of a beginning, the J behind these, and the nibbles behind these
+-- the whole pieces of a beginning, the J after these, and the nibbles after these
 abbrev pub whole_pieces : Beginning → List Piece
 whole_pieces (beacon count) = []
 whole_pieces (between pieces lead) = pieces

@@ -97,7 +97,7 @@ pub fn put_piece(
     Ok(())
 }
 
-/// Puts the group of a symbol, for which there must be room, behind those that are held.
+/// Puts the group of a symbol, for which there must be room, after those that are held.
 fn put(held: &mut ArrayVec<u8, ROOM>, s: Symbol)
     requires symbol { IsSymbol s }
     requires room { array_vec_len held.old < ROOM }

@@ -4,7 +4,7 @@ ghost use Rattle.t1s_symbols.specs.Ranges.{IsSymbol};
 ghost use Rattle.t1s_symbols.specs.declared.Symbol.{Symbol as Symbols};
 ghost use Rattle.t1s_grammar.specs.Burst.{IsBurst, BeginsBurst};
 ghost use Rattle.t1s_grammar.specs.Prefixes.{Stands, IsTooLong, whole_pieces, last_lead, last_nibbles};
-ghost use Rattle.t1s_grammar.specs.Steps.{start_phase, place_step, pieces_at, lead_at, nibbles_at, ends_burst, phase_in_range, beacon_step, between_step, opened_step, within_step, ended_step};
+ghost use Rattle.t1s_grammar.specs.PlaceTable.{start_phase, place_step, pieces_at, lead_at, nibbles_at, ends_burst, phase_in_range, beacon_step, between_step, opened_step, within_step, ended_step};
 
 use std::marker::Model;
 use t1s_symbols::Symbol;
@@ -33,32 +33,32 @@ pub enum PlaceFault {
     /// The grammar has no such symbol here.
     NotHere,
     /// The symbol is one too many: the 3057th nibble of a piece, the 4097th J in a row, or the first H of the
-    /// 4097th piece behind at least two J.
+    /// 4097th piece after at least two J.
     TooLong,
 }
 
 /// Where in a burst the symbols so far end.
 #[derive(Clone, Copy, Debug, PartialEq, Eq)]
 pub enum Phase {
-    /// In a beacon, behind so many N.
+    /// In a beacon, after so many N.
     Beacon(u8),
-    /// Behind whole pieces, and so many J since. At the start both are 0.
+    /// After whole pieces, and so many J since. At the start both are 0.
     Between {
         closed: u16,
         lead: u16,
     },
-    /// Behind the first H of a piece.
+    /// After the first H of a piece.
     Opened {
         closed: u16,
         lead: u16,
     },
-    /// Behind both H of a piece, and so many nibbles since.
+    /// After both H of a piece, and so many nibbles since.
     Within {
         closed: u16,
         lead: u16,
         nibbles: u16,
     },
-    /// Behind the T of a piece.
+    /// After the T of a piece.
     Ended {
         closed: u16,
         lead: u16,
@@ -76,7 +76,7 @@ pub struct Place {
 impl Model for Place {
     ghost use Rattle.std.specs.Prelude.{IsTrue};
     ghost use Rattle.t1s_grammar.specs.declared.place.Phase.{Phase};
-    ghost use Rattle.t1s_grammar.specs.Steps.{phase_in_range};
+    ghost use Rattle.t1s_grammar.specs.PlaceTable.{phase_in_range};
 
     ghost Value = { Phase };
 
@@ -97,7 +97,7 @@ impl Place {
     }
 
     /// Takes the next symbol. It is refused exactly where the symbols with it begin no burst: as `TooLong` where it is
-    /// the 3057th nibble of a piece, the 4097th J in a row, or the first H of the 4097th piece behind at least two J,
+    /// the 3057th nibble of a piece, the 4097th J in a row, or the first H of the 4097th piece after at least two J,
     /// and as `NotHere` in all other cases.
     pub fn take(self, s: Symbol) -> Result<Place, PlaceFault>
         requires { IsSymbol s }
@@ -137,7 +137,7 @@ impl Place {
         }
     }
 
-    /// How many J stand behind the closed pieces: the lead of the piece that has begun, if one has.
+    /// How many J stand after the closed pieces: the lead of the piece that has begun, if one has.
     pub fn lead(&self) -> u16
         ensures value { result ≡ lead_at self.now }
         ensures lead { (symbols : List Symbols) → (h : Stands symbols self.now) → result ≡ last_lead h.beginning }
@@ -175,7 +175,7 @@ fn ends_burst(phase: Phase) -> bool
     }
 }
 
-/// The phase behind the next symbol.
+/// The phase after the next symbol.
 fn next(phase: Phase, s: Symbol) -> Result<Phase, PlaceFault>
     requires { IsTrue (phase_in_range phase) }
     ensures step { result ≡ place_step phase s }
@@ -194,7 +194,7 @@ fn next(phase: Phase, s: Symbol) -> Result<Phase, PlaceFault>
     }
 }
 
-/// The next symbol behind `count` N.
+/// The next symbol after `count` N.
 fn in_beacon(count: u8, s: Symbol) -> Result<Phase, PlaceFault>
     ensures { result ≡ beacon_step count s }
 {
@@ -204,7 +204,7 @@ fn in_beacon(count: u8, s: Symbol) -> Result<Phase, PlaceFault>
     }
 }
 
-/// The next symbol behind pieces and J.
+/// The next symbol after pieces and J.
 fn between(closed: u16, lead: u16, s: Symbol) -> Result<Phase, PlaceFault>
     ensures { result ≡ between_step closed lead s }
 {
@@ -222,7 +222,7 @@ fn between(closed: u16, lead: u16, s: Symbol) -> Result<Phase, PlaceFault>
     }
 }
 
-/// The next symbol behind the first H of a piece.
+/// The next symbol after the first H of a piece.
 fn opened(closed: u16, lead: u16, s: Symbol) -> Result<Phase, PlaceFault>
     ensures { result ≡ opened_step closed lead s }
 {
@@ -236,7 +236,7 @@ fn opened(closed: u16, lead: u16, s: Symbol) -> Result<Phase, PlaceFault>
     }
 }
 
-/// The next symbol behind both H of a piece and its nibbles so far.
+/// The next symbol after both H of a piece and its nibbles so far.
 fn within(closed: u16, lead: u16, nibbles: u16, s: Symbol) -> Result<Phase, PlaceFault>
     ensures { result ≡ within_step closed lead nibbles s }
 {
@@ -256,7 +256,7 @@ fn within(closed: u16, lead: u16, nibbles: u16, s: Symbol) -> Result<Phase, Plac
     }
 }
 
-/// The next symbol behind the T of a piece.
+/// The next symbol after the T of a piece.
 fn ended(closed: u16, s: Symbol) -> Result<Phase, PlaceFault>
     requires { closed < 4096 }
     ensures { result ≡ ended_step closed s }

@@ -12,7 +12,7 @@ const PIECE: [(Symbol, u16); 4] = [
     (Symbol::T, 1),
 ];
 
-/// The place behind `times` times a symbol.
+/// The place after `times` times a symbol.
 fn after(place: Place, s: Symbol, times: u16) -> Result<Place, PlaceFault> {
     let mut place = place;
     for _ in 0..times {
@@ -30,8 +30,8 @@ fn after(place: Place, s: Symbol, times: u16) -> Result<Place, PlaceFault> {
     Ok(place)
 }
 
-/// The place behind symbols, each as often as it stands in a row.
-fn judged(place: Place, symbols: &[(Symbol, u16)]) -> Result<Place, PlaceFault> {
+/// The place after symbols, each as often as it stands in a row.
+fn judgement(place: Place, symbols: &[(Symbol, u16)]) -> Result<Place, PlaceFault> {
     let mut place = place;
     for (s, times) in symbols {
         place = after(place, *s, *times)?;
@@ -39,23 +39,23 @@ fn judged(place: Place, symbols: &[(Symbol, u16)]) -> Result<Place, PlaceFault> 
     Ok(place)
 }
 
-/// The place behind so many whole pieces.
-fn behind_pieces(count: u16) -> Result<Place, PlaceFault> {
+/// The place after so many whole pieces.
+fn after_pieces(count: u16) -> Result<Place, PlaceFault> {
     let mut place = Place::start();
     for _ in 0..count {
-        place = judged(place, &PIECE)?.take(Symbol::K)?;
+        place = judgement(place, &PIECE)?.take(Symbol::K)?;
     }
     Ok(place)
 }
 
 /// Whether symbols are a burst; the fault where they begin none.
 fn is_burst(symbols: &[(Symbol, u16)]) -> Result<bool, PlaceFault> {
-    Ok(judged(Place::start(), symbols)?.is_burst())
+    Ok(judgement(Place::start(), symbols)?.is_burst())
 }
 
 /// Whether J and an H may follow so many pieces, and how many pieces, J and nibbles the place then counts.
 fn opened(pieces: u16, lead: u16) -> Result<(u16, u16, u16), PlaceFault> {
-    let place = after(behind_pieces(pieces)?, Symbol::J, lead)?.take(Symbol::H)?;
+    let place = after(after_pieces(pieces)?, Symbol::J, lead)?.take(Symbol::H)?;
     Ok((place.pieces(), place.lead(), place.nibbles()))
 }
 
@@ -78,10 +78,10 @@ fn bursts_are_told_from_their_beginnings(rt: HostRuntime) {
         (Symbol::T, 1),
     ];
     assert_eq!(rt; is_burst(&few), Err(PlaceFault::NotHere));
-    let piece = judged(Place::start(), &PIECE);
+    let piece = judgement(Place::start(), &PIECE);
     if let Ok(place) = piece {
         assert_eq!(rt; (place.pieces(), place.lead(), place.nibbles()), (0, 2, 9));
-        let run = judged(place, &[(Symbol::R, 1), (Symbol::J, 3)]);
+        let run = judgement(place, &[(Symbol::R, 1), (Symbol::J, 3)]);
         assert!(rt; run.is_ok_and(|place| place.is_burst()));
     } else {
         assert!(rt; false);

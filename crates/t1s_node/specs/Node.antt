@@ -6,7 +6,7 @@ use Rattle.t1s_symbols.specs.declared.Heard.TheVariants.{Nothing, One, Many}
 use Rattle.t1s_ring.specs.Queue.{Queue, empty_queue}
 use Rattle.t1s_ring.specs.declared.queued.Queued.{Queued}
 use Rattle.t1s_pcs_rx.specs.Receiver.{Receiver, receive_start}
-use Rattle.t1s_pcs_rx.specs.Receive.{receive_step}
+use Rattle.t1s_pcs_rx.specs.ReceiveTable.{receive_step}
 use Rattle.plca_control.specs.Ranges.{IsControlSet}
 use Rattle.plca_control.specs.declared.StatusState.{StatusState}
 use Rattle.plca_control.specs.StatusTable.{status_start, status_step, status_is_ok}

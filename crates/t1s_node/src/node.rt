@@ -3,7 +3,7 @@ ghost use Rattle.std.specs.Prelude.{◌≡◌, ◌<◌, ◌↔◌, [], length, I
 ghost use Rattle.std.specs.Borrow.{sem};
 ghost use Rattle.t1s_symbols.specs.Ranges.{IsHeard, IsQuarter};
 ghost use Rattle.t1s_pcs_rx.specs.Leaves.{event_shown};
-ghost use Rattle.t1s_pcs_rx.specs.Receive.{receive_event};
+ghost use Rattle.t1s_pcs_rx.specs.ReceiveTable.{receive_event};
 ghost use Rattle.t1s_pcs_tx.specs.State.{is_closed};
 ghost use Rattle.t1s_pcs_tx.specs.TransmitTable.{transmit_step};
 ghost use Rattle.plca_data.specs.Ranges.{IsMacOut};

@@ -15,12 +15,12 @@ use Rattle.t1s_scramble.proofs.Nibbles.{descrambled_nibbles-nil, descrambled_nib
 use Rattle.t1s_grammar.specs.declared.place.Phase.TheVariants.{Beacon, Between, Opened, Within, Ended}
 use Rattle.t1s_grammar.specs.Burst.{Piece, IsPieceInRange, IsCloser, piece_symbols, pieces_symbols, open_symbols, IsBurst, beacon, run, bare}
 use Rattle.t1s_grammar.specs.Reading.{heard_nibbles}
-use Rattle.t1s_grammar.specs.Steps.{start_phase}
-use Rattle.t1s_grammar.proofs.Beginnings.{All-nil}
-use Rattle.t1s_grammar.proofs.Judged.{step-J, step-N, step-H, step-nibble, step-T}
+use Rattle.t1s_grammar.specs.PlaceTable.{start_phase}
+use Rattle.t1s_grammar.proofs.Longer.{All-nil}
+use Rattle.t1s_grammar.proofs.Judgements.{step-J, step-N, step-H, step-nibble, step-T}
 use Rattle.t1s_pcs_rx.specs.declared.reader.Burst.TheVariants.{Outside, Reading}
 use Rattle.t1s_pcs_rx.specs.Receiver.{Receiver}
-use Rattle.t1s_pcs_rx.specs.Receive.{closing_in, receive_step, nibbles_after}
+use Rattle.t1s_pcs_rx.specs.ReceiveTable.{closing_in, receive_step, nibbles_after}
 use Rattle.t1s_pcs_rx.specs.Views.{View, view_of, view_by, closer_of}
 use Rattle.t1s_pcs_rx.specs.Laws.{PiecesAreHandedOn, burst_events, events_heard, no_events, piece_events, quarters, run_events}
 use Rattle.t1s_pcs_rx.proofs.Ticks.{At, Goes, goes-symbol, goes-then, tick}
@@ -36,51 +36,51 @@ no_events-suc n =
 
 -- ---- the parts of a burst
 
-goes-leads : (n i closed : ℕ) (past : List Bool) (kept : List ℕ) (r : Receiver) → i + n ≤ 4096 → At r (Between closed i) past kept
-    → Goes r (flat_map quarters (replicate n J)) (no_events n) (Between closed (i + n)) past kept
-goes-leads zero i closed past kept r h at =
+goes-leads : (n i closed : ℕ) (past : List Bool) (heard : List ℕ) (r : Receiver) → i + n ≤ 4096 → At r (Between closed i) past heard
+    → Goes r (flat_map quarters (replicate n J)) (no_events n) (Between closed (i + n)) past heard
+goes-leads zero i closed past heard r h at =
     let same : i ≡ i + 0 = omega arith in
     rw (← same) (record { next = r; at_place = at; told = λ rest. refl })
-goes-leads (suc n) i closed past kept r h at =
+goes-leads (suc n) i closed past heard r h at =
     let same : i + 1 + n ≡ i + suc n = omega arith in
-    let first : Goes r (quarters J) (None ∷ None ∷ None ∷ None ∷ []) (Between closed (i + 1)) past kept
-    = goes-symbol r (Between closed i) (Between closed (i + 1)) past kept J at (step-J closed i (omega arith)) in
+    let first : Goes r (quarters J) (None ∷ None ∷ None ∷ None ∷ []) (Between closed (i + 1)) past heard
+    = goes-symbol r (Between closed i) (Between closed (i + 1)) past heard J at (step-J closed i (omega arith)) in
     rw (no_events-suc n, ← same)
     (goes-then r (quarters J) (flat_map quarters (replicate n J)) (None ∷ None ∷ None ∷ None ∷ []) (no_events n)
-    (Between closed (i + 1)) (Between closed (i + 1 + n)) past past kept kept first
-    (λ m there. goes-leads n (i + 1) closed past kept m (omega arith) there))
+    (Between closed (i + 1)) (Between closed (i + 1 + n)) past past heard heard first
+    (λ m there. goes-leads n (i + 1) closed past heard m (omega arith) there))
 
-goes-lead : (n closed : ℕ) (past : List Bool) (kept : List ℕ) (r : Receiver) → n ≤ 4096 → At r (Between closed 0) past kept
-    → Goes r (flat_map quarters (replicate n J)) (no_events n) (Between closed n) past kept
-goes-lead n closed past kept r h at =
+goes-lead : (n closed : ℕ) (past : List Bool) (heard : List ℕ) (r : Receiver) → n ≤ 4096 → At r (Between closed 0) past heard
+    → Goes r (flat_map quarters (replicate n J)) (no_events n) (Between closed n) past heard
+goes-lead n closed past heard r h at =
     let same : 0 + n ≡ n = omega arith in
-    let g : Goes r (flat_map quarters (replicate n J)) (no_events n) (Between closed (0 + n)) past kept
-    = goes-leads n 0 closed past kept r (omega arith) at in
+    let g : Goes r (flat_map quarters (replicate n J)) (no_events n) (Between closed (0 + n)) past heard
+    = goes-leads n 0 closed past heard r (omega arith) at in
     rw same at g
 
-goes-beacon : (n i : ℕ) (past : List Bool) (kept : List ℕ) (r : Receiver) → i + n ≤ 5 → At r (Beacon i) past kept
-    → Goes r (flat_map quarters (replicate n N)) (no_events n) (Beacon (i + n)) past kept
-goes-beacon zero i past kept r h at =
+goes-beacon : (n i : ℕ) (past : List Bool) (heard : List ℕ) (r : Receiver) → i + n ≤ 5 → At r (Beacon i) past heard
+    → Goes r (flat_map quarters (replicate n N)) (no_events n) (Beacon (i + n)) past heard
+goes-beacon zero i past heard r h at =
     let same : i ≡ i + 0 = omega arith in
     rw (← same) (record { next = r; at_place = at; told = λ rest. refl })
-goes-beacon (suc n) i past kept r h at =
+goes-beacon (suc n) i past heard r h at =
     let same : i + 1 + n ≡ i + suc n = omega arith in
-    let first : Goes r (quarters N) (None ∷ None ∷ None ∷ None ∷ []) (Beacon (i + 1)) past kept
-    = goes-symbol r (Beacon i) (Beacon (i + 1)) past kept N at (step-N i (omega arith)) in
+    let first : Goes r (quarters N) (None ∷ None ∷ None ∷ None ∷ []) (Beacon (i + 1)) past heard
+    = goes-symbol r (Beacon i) (Beacon (i + 1)) past heard N at (step-N i (omega arith)) in
     rw (no_events-suc n, ← same)
     (goes-then r (quarters N) (flat_map quarters (replicate n N)) (None ∷ None ∷ None ∷ None ∷ []) (no_events n)
-    (Beacon (i + 1)) (Beacon (i + 1 + n)) past past kept kept first
-    (λ m there. goes-beacon n (i + 1) past kept m (omega arith) there))
+    (Beacon (i + 1)) (Beacon (i + 1 + n)) past past heard heard first
+    (λ m there. goes-beacon n (i + 1) past heard m (omega arith) there))
 
 -- the elements from the tenth on, with one more
 drop-more : (xs : List ℕ) (d k : ℕ) → length xs ≡ k
     → (if nat_lt k 9 then drop 9 xs else drop 9 xs ++ d ∷ []) ≡ drop 9 (xs ++ d ∷ [])
 drop-more xs d k e = grind (arith, common_steps, drop_of_length-le, drop-append-le)
 
-kept-more : (past : List Bool) (done : List ℕ) (n : ℕ)
+heard-more : (past : List Bool) (done : List ℕ) (n : ℕ)
     → nibbles_after (length done) (descrambler_after past done) (drop 9 (descrambled_nibbles past done)) (Nibble n)
     ≡ drop 9 (descrambled_nibbles past (done ++ n ∷ []))
-kept-more past done n =
+heard-more past done n =
     drop-more (descrambled_nibbles past done) (descrambled_nibble (descrambler_after past done) n) (length done)
     (length-descrambled_nibbles past done)
     ∙ ap (drop 9) (sym (descrambled_nibbles-push past done n))
@@ -104,7 +104,7 @@ goes-nibbles (n ∷ ns) done closed lead past r h at =
     (drop 9 (descrambled_nibbles past done)) (Nibble n) at (step-nibble closed lead (length done) n (omega arith)) in
     let here : Goes r (quarters (Nibble n)) (None ∷ None ∷ None ∷ None ∷ []) (Within closed lead (length more))
     (descrambler_after past more) (drop 9 (descrambled_nibbles past more))
-    = rw (one, descrambler_after-append past done (n ∷ []), ← kept-more past done n) first in
+    = rw (one, descrambler_after-append past done (n ∷ []), ← heard-more past done n) first in
     rw (no_events-suc (length ns), ← all, ← same)
     (goes-then r (quarters (Nibble n)) (flat_map quarters (map Nibble ns)) (None ∷ None ∷ None ∷ None ∷ []) (no_events (length ns))
     (Within closed lead (length more)) (Within closed lead (length more + length ns)) (descrambler_after past more)
@@ -125,13 +125,13 @@ goes-all ns closed lead past r h at =
     = goes-nibbles ns [] closed lead past r (omega arith) start in
     rw same at g
 
-goes-closer : (r : Receiver) (closed lead groups : ℕ) (past : List Bool) (kept : List ℕ) (s : Symbol) → IsCloser s
-    → At r (Ended closed lead groups) past kept
-    → Goes r (quarters s) (None ∷ None ∷ None ∷ Some (view_by lead groups (closer_of s) kept) ∷ []) (Between (closed + 1) 0) past kept
-goes-closer r closed lead groups past kept R h at = goes-symbol r (Ended closed lead groups) (Between (closed + 1) 0) past kept R at refl
-goes-closer r closed lead groups past kept K h at = goes-symbol r (Ended closed lead groups) (Between (closed + 1) 0) past kept K at refl
-goes-closer r closed lead groups past kept S h at = goes-symbol r (Ended closed lead groups) (Between (closed + 1) 0) past kept S at refl
-goes-closer r closed lead groups past kept _ h at = absurd h
+goes-closer : (r : Receiver) (closed lead groups : ℕ) (past : List Bool) (heard : List ℕ) (s : Symbol) → IsCloser s
+    → At r (Ended closed lead groups) past heard
+    → Goes r (quarters s) (None ∷ None ∷ None ∷ Some (view_by lead groups (closer_of s) heard) ∷ []) (Between (closed + 1) 0) past heard
+goes-closer r closed lead groups past heard R h at = goes-symbol r (Ended closed lead groups) (Between (closed + 1) 0) past heard R at refl
+goes-closer r closed lead groups past heard K h at = goes-symbol r (Ended closed lead groups) (Between (closed + 1) 0) past heard K at refl
+goes-closer r closed lead groups past heard S h at = goes-symbol r (Ended closed lead groups) (Between (closed + 1) 0) past heard S at refl
+goes-closer r closed lead groups past heard _ h at = absurd h
 
 -- ---- a piece
 
@@ -170,11 +170,11 @@ piece_heard lead ns s =
     flat_map-append quarters (open_symbols lead ns) (T ∷ s ∷ [])
     ∙ ap (λ hs. hs ++ (quarters T ++ quarters s)) (flat_map-append quarters (replicate lead J) (H ∷ H ∷ map Nibble ns))
 
-goes-piece : (p : Piece) (closed : ℕ) (past : List Bool) (kept : List ℕ) (r : Receiver) → IsPieceInRange p → closed < 4096
-    → At r (Between closed 0) past kept
+goes-piece : (p : Piece) (closed : ℕ) (past : List Bool) (before : List ℕ) (r : Receiver) → IsPieceInRange p → closed < 4096
+    → At r (Between closed 0) past before
     → Goes r (flat_map quarters (piece_symbols p)) (piece_events past p) (Between (closed + 1) 0)
     (descrambler_after past p.nibbles) (heard_nibbles past p)
-goes-piece p closed past kept r h few at =
+goes-piece p closed past before r h few at =
     let lead : ℕ = p.lead in
     let ns : List ℕ = p.nibbles in
     let g : ℕ = length ns in
@@ -191,11 +191,11 @@ goes-piece p closed past kept r h few at =
     (quarters T ++ quarters p.closer) (no_events lead ++ (silent ++ (silent ++ no_events g))) (silent ++ told)
     (Within closed lead g) (Between (closed + 1) 0) now now heard heard
     (goes-then r (flat_map quarters (replicate lead J)) (quarters H ++ (quarters H ++ flat_map quarters (map Nibble ns)))
-    (no_events lead) (silent ++ (silent ++ no_events g)) (Between closed lead) (Within closed lead g) past now kept heard
-    (goes-lead lead closed past kept r most at)
+    (no_events lead) (silent ++ (silent ++ no_events g)) (Between closed lead) (Within closed lead g) past now before heard
+    (goes-lead lead closed past before r most at)
     (λ a there. goes-then a (quarters H) (quarters H ++ flat_map quarters (map Nibble ns)) silent (silent ++ no_events g)
     (Opened closed lead) (Within closed lead g) past now [] heard
-    (goes-symbol a (Between closed lead) (Opened closed lead) past kept H there (step-H closed lead least few))
+    (goes-symbol a (Between closed lead) (Opened closed lead) past before H there (step-H closed lead least few))
     (λ b opened. goes-then b (quarters H) (flat_map quarters (map Nibble ns)) silent (no_events g)
     (Within closed lead 0) (Within closed lead g) past now [] heard
     (goes-symbol b (Opened closed lead) (Within closed lead 0) past [] H opened refl)
@@ -206,19 +206,19 @@ goes-piece p closed past kept r h few at =
 
 -- ---- a burst
 
-run-told : (pieces : List Piece) (rest closed : ℕ) (past : List Bool) (kept : List ℕ) (r : Receiver)
-    → closed + length pieces ≤ 4096 → All IsPieceInRange pieces → rest ≤ 4096 → At r (Between closed 0) past kept
+run-told : (pieces : List Piece) (rest closed : ℕ) (past : List Bool) (heard : List ℕ) (r : Receiver)
+    → closed + length pieces ≤ 4096 → All IsPieceInRange pieces → rest ≤ 4096 → At r (Between closed 0) past heard
     → events_heard r (flat_map quarters (pieces_symbols pieces ++ replicate rest J)) ≡ run_events past pieces rest
-run-told [] rest closed past kept r few h most at =
-    let g : Goes r (flat_map quarters (replicate rest J)) (no_events rest) (Between closed rest) past kept
-    = goes-lead rest closed past kept r most at in
+run-told [] rest closed past heard r few h most at =
+    let g : Goes r (flat_map quarters (replicate rest J)) (no_events rest) (Between closed rest) past heard
+    = goes-lead rest closed past heard r most at in
     ap (events_heard r) (sym (append-nil (flat_map quarters (replicate rest J))))
     ∙ g.told []
     ∙ append-nil (no_events rest)
-run-told (p ∷ ps) rest closed past kept r few h most at =
+run-told (p ∷ ps) rest closed past heard r few h most at =
     let g : Goes r (flat_map quarters (piece_symbols p)) (piece_events past p) (Between (closed + 1) 0)
     (descrambler_after past p.nibbles) (heard_nibbles past p)
-    = goes-piece p closed past kept r (h 0 p (omega arith)) (omega arith) at in
+    = goes-piece p closed past heard r (h 0 p (omega arith)) (omega arith) at in
     let others : List Symbol = pieces_symbols ps ++ replicate rest J in
     ap (λ ss. events_heard r (flat_map quarters ss)) (append_assoc (piece_symbols p) (pieces_symbols ps) (replicate rest J))
     ∙ ap (events_heard r) (flat_map-append quarters (piece_symbols p) others)
@@ -255,12 +255,12 @@ burst-told : (r : Receiver) (symbols : List Symbol) (burst : IsBurst symbols)
     → events_heard (begun r) (flat_map quarters symbols) ≡ burst_events r.history burst
 burst-told r symbols (beacon h) =
     let past : List Bool = r.history in
-    let kept : List ℕ = r.nibbles in
-    let first : Goes (begun r) (quarters N) (None ∷ None ∷ None ∷ None ∷ []) (Beacon 1) past kept
-    = goes-symbol (begun r) start_phase (Beacon 1) past kept N (at-begun r) refl in
-    let all : Goes (begun r) (quarters N ++ flat_map quarters (replicate 4 N)) (None ∷ None ∷ None ∷ None ∷ no_events 4) (Beacon 5) past kept
+    let heard : List ℕ = r.nibbles in
+    let first : Goes (begun r) (quarters N) (None ∷ None ∷ None ∷ None ∷ []) (Beacon 1) past heard
+    = goes-symbol (begun r) start_phase (Beacon 1) past heard N (at-begun r) refl in
+    let all : Goes (begun r) (quarters N ++ flat_map quarters (replicate 4 N)) (None ∷ None ∷ None ∷ None ∷ no_events 4) (Beacon 5) past heard
     = goes-then (begun r) (quarters N) (flat_map quarters (replicate 4 N)) (None ∷ None ∷ None ∷ None ∷ []) (no_events 4)
-    (Beacon 1) (Beacon 5) past past kept kept first (λ m there. goes-beacon 4 1 past kept m (omega arith) there) in
+    (Beacon 1) (Beacon 5) past past heard heard first (λ m there. goes-beacon 4 1 past heard m (omega arith) there) in
     rw h (all.told [])
 burst-told r symbols (run h) =
     rw (h.spelled) (run-told h.pieces h.rest 0 r.history r.nibbles (begun r) (omega (arith, h.most_pieces)) h.in_range h.most_rest (at-begun r))

@@ -1,5 +1,5 @@
-pub mod Kept
-pub mod Judged
+pub mod NibbleRoom
+pub mod CompleteSymbols
 pub mod Ticks
 pub mod Bursts
 pub mod Frames

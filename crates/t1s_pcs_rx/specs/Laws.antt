@@ -11,7 +11,7 @@ use Rattle.t1s_frame.specs.Frame.{IsFrame}
 use Rattle.t1s_pcs_rx.specs.declared.piece.Closer.TheVariants.{R}
 use Rattle.t1s_pcs_rx.specs.declared.piece.Kind.TheVariants.{Good}
 use Rattle.t1s_pcs_rx.specs.Receiver.{Receiver}
-use Rattle.t1s_pcs_rx.specs.Receive.{receive_step, receive_event}
+use Rattle.t1s_pcs_rx.specs.ReceiveTable.{receive_step, receive_event}
 use Rattle.t1s_pcs_rx.specs.Views.{View, view_of}
 
 -- a symbol, as it is heard alone: its four quarters

@@ -7,7 +7,7 @@ use Rattle.t1s_pcs_rx.specs.declared.receiver.RxEvent.{RxEvent}
 use Rattle.t1s_pcs_rx.specs.declared.receiver.RxEvent.TheVariants.{Nothing, Piece}
 use Rattle.t1s_pcs_rx.specs.contracts.receiver.PcsRx.{the_row}
 use Rattle.t1s_pcs_rx.specs.Receiver.{Receiver}
-use Rattle.t1s_pcs_rx.specs.Receive.{receive_step}
+use Rattle.t1s_pcs_rx.specs.ReceiveTable.{receive_step}
 use Rattle.t1s_pcs_rx.specs.Views.{View, view_shown}
 
 -- what an event shows

@@ -1,6 +1,6 @@
 pub mod Views
 pub mod Receiver
-pub mod Receive
+pub mod ReceiveTable
 pub mod Ranges
 pub mod Leaves
 pub mod Laws

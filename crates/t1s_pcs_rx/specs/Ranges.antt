@@ -9,19 +9,19 @@ use Rattle.t1s_symbols.specs.declared.Symbol.TheVariants.{Nibble}
 use Rattle.t1s_pcs_rx.specs.Receiver.{Receiver}
 
 -- among the nibbles of a piece, those from the tenth on are kept
-abbrev pub kept_at : Phase → ℕ → Bool
-kept_at (Within closed lead nibbles) kept = nat_le kept (nibbles - 9)
-kept_at _ kept = true
+abbrev pub room_at : Phase → ℕ → Bool
+room_at (Within closed lead nibbles) heard = nat_le heard (nibbles - 9)
+room_at _ heard = true
 
-abbrev pub kept_in : Burst → ℕ → Bool
-kept_in (Reading last fresh place) kept = kept_at place kept
-kept_in _ kept = true
+abbrev pub room_in : Burst → ℕ → Bool
+room_in (Reading last fresh place) heard = room_at place heard
+room_in _ heard = true
 
 pub record IsReceiver (r : Receiver) : Type 0 where
-  pub kept : IsTrue (kept_in r.burst (length r.nibbles))
+  pub heard : IsTrue (room_in r.burst (length r.nibbles))
   pub ranges : All (λ n. n < 16) r.nibbles
 
 -- there is room for a nibble
 abbrev pub HasRoom : Symbol → ℕ → Type 0
-HasRoom (Nibble n) kept = kept < 3047
-HasRoom _ kept = Unit {0}
+HasRoom (Nibble n) heard = heard < 3047
+HasRoom _ heard = Unit {0}

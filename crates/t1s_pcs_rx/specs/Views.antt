@@ -43,7 +43,7 @@ kind_shown jabber = Jabber
 abbrev pub kind_of : Closer → List ℕ → Kind
 kind_of closer heard = kind_shown (kind_by (closer_symbol closer) heard)
 
--- the frame of a piece, frame check sequence included: the octets behind the start-of-frame delimiter where the
+-- the frame of a piece, frame check sequence included: the octets after the start-of-frame delimiter where the
 -- kind is Good, and none elsewhere
 abbrev pub frame_of : Kind → List ℕ → List ℕ
 frame_of Good heard = octets_of (drop 3 heard)

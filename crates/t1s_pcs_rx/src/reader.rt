@@ -2,10 +2,10 @@
 ghost use Rattle.std.specs.Prelude.{◌≡◌, ◌<◌, ◌≤◌, length, All, IfSome, IsTrue};
 ghost use Rattle.t1s_symbols.specs.Ranges.{IsHeard, IsQuarter, IsSymbol};
 ghost use Rattle.t1s_pcs_rx.specs.Receiver.{Receiver, receive_start};
-ghost use Rattle.t1s_pcs_rx.specs.Receive.{class_after, class_at_end, class_in, class_of, closed_by, closing_at, closing_by, closing_from, closing_in, counted, ended, entered, heard_by, history_after, judged, nibbles_after, quarter_heard, receive_step};
-ghost use Rattle.t1s_pcs_rx.specs.Ranges.{kept_at, HasRoom};
+ghost use Rattle.t1s_pcs_rx.specs.ReceiveTable.{class_after, class_at_end, class_in, class_of, closed_by, closing_at, closing_by, closing_from, closing_in, counted, ended, entered, heard_by, history_after, after_judgement, nibbles_after, quarter_heard, receive_step};
+ghost use Rattle.t1s_pcs_rx.specs.Ranges.{room_at, HasRoom};
 ghost use Rattle.t1s_pcs_rx.specs.declared.reader.Burst.TheVariants.{Ended};
-ghost use Rattle.t1s_grammar.specs.Steps.{place_step};
+ghost use Rattle.t1s_grammar.specs.PlaceTable.{place_step};
 
 use crate::nibbles::Nibbles;
 use crate::piece::Closer;
@@ -16,7 +16,7 @@ use t1s_scramble::Descrambler;
 use t1s_symbols::{Class, Heard, Quarter, QuarterReading, Symbol};
 
 /// The nibbles of a piece that are not kept: the descrambler finds its step in them.
-const NOT_KEPT: u16 = 9;
+const NOT_HEARD: u16 = 9;
 
 /// Where a receiver is in what it hears.
 #[derive(Drop)]
@@ -103,12 +103,12 @@ impl Reader {
     }
 
     /// One tick: the end of a piece, where the tick closes one. `own` tells that the node drives in it.
-    #[tactic(auto, unfolding(crate::specs::Receive::receive_step, crate::specs::Receive::closing_in))]
+    #[tactic(auto, unfolding(crate::specs::ReceiveTable::receive_step, crate::specs::ReceiveTable::closing_in))]
     pub fn step(&mut self, heard: Heard, own: bool) -> Option<PieceEnd>
         requires { IsHeard heard }
         ensures after { self.new ≡ receive_step self.old heard own }
         ensures closing { result ≡ closing_in self.old heard own }
-        ensures kept { IfSome result (λ _. self.new.nibbles ≡ self.old.nibbles) }
+        ensures heard { IfSome result (λ _. self.new.nibbles ≡ self.old.nibbles) }
     {
         self.class = class_in(self.class, own);
         self.hear(counted(heard, own), own)
@@ -119,7 +119,7 @@ impl Reader {
         requires { IsHeard heard }
         ensures after { self.new ≡ heard_by self.old heard own }
         ensures closing { result ≡ closing_by self.old heard }
-        ensures kept { IfSome result (λ _. self.new.nibbles ≡ self.old.nibbles) }
+        ensures heard { IfSome result (λ _. self.new.nibbles ≡ self.old.nibbles) }
     {
         match heard {
             Heard::Nothing => {
@@ -167,7 +167,7 @@ impl Reader {
         requires { IsQuarter quarter }
         ensures after { self.new ≡ quarter_heard self.old quarter own }
         ensures closing { result ≡ closing_from quarter self.old.burst }
-        ensures kept { IfSome result (λ _. self.new.nibbles ≡ self.old.nibbles) }
+        ensures heard { IfSome result (λ _. self.new.nibbles ≡ self.old.nibbles) }
     {
         match mem::replace(&mut self.burst, Burst::Ended) {
             Burst::Reading { last, fresh, place } => match quarter.reading(last) {
@@ -199,11 +199,11 @@ impl Reader {
     /// taken.
     fn judge(&mut self, place: Place, quarter: Quarter) -> Option<PieceEnd>
         requires quarter { IsQuarter quarter }
-        requires kept { IsTrue (kept_at place (length self.old.nibbles)) }
+        requires heard { IsTrue (room_at place (length self.old.nibbles)) }
         requires ended { self.old.burst ≡ Ended }
-        ensures after { self.new ≡ judged self.old quarter self.old.class place (place_step place quarter.sym) }
+        ensures after { self.new ≡ after_judgement self.old quarter self.old.class place (place_step place quarter.sym) }
         ensures closing { result ≡ closing_at place quarter.sym (place_step place quarter.sym) }
-        ensures kept { IfSome result (λ _. self.new.nibbles ≡ self.old.nibbles) }
+        ensures heard { IfSome result (λ _. self.new.nibbles ≡ self.old.nibbles) }
     {
         let lead = place.lead();
         let groups = place.nibbles();
@@ -257,7 +257,7 @@ fn class_of(sym: Symbol) -> Class
     }
 }
 
-/// The class behind a complete symbol: the first one of a burst sets it.
+/// The class after a complete symbol: the first one of a burst sets it.
 fn class_after(class: Class, fresh: bool, sym: Symbol) -> Class
     ensures { result ≡ class_after class fresh sym }
 {
@@ -295,7 +295,7 @@ fn keep(descrambler: &mut Descrambler, nibbles: &mut Nibbles, groups: u16, sym: 
         Symbol::H => nibbles.clear(),
         Symbol::Nibble(nibble) => {
             let plain = descrambler.descramble(nibble);
-            if NOT_KEPT <= groups {
+            if NOT_HEARD <= groups {
                 nibbles.push(plain);
             }
         }

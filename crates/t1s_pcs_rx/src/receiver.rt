@@ -3,7 +3,7 @@ ghost use Rattle.std.specs.Prelude.{◌≡◌, ◌*◌, ◌<◌, ◌≤◌, [], 
 ghost use Rattle.std.specs.Borrow.{sem};
 ghost use Rattle.t1s_symbols.specs.Ranges.{IsHeard};
 ghost use Rattle.t1s_pcs_rx.specs.Receiver.{receive_start};
-ghost use Rattle.t1s_pcs_rx.specs.Receive.{receive_event};
+ghost use Rattle.t1s_pcs_rx.specs.ReceiveTable.{receive_event};
 ghost use Rattle.t1s_pcs_rx.specs.Views.{frame_of, kind_of};
 ghost use Rattle.t1s_pcs_rx.specs.Leaves.{event_shown, LeavesReceiver};
 

@@ -69,12 +69,12 @@ fn front(groups: &[u8], count: usize) -> &[u8] {
     &groups[..count.min(groups.len())]
 }
 
-/// The groups behind them.
+/// The groups after them.
 fn back(groups: &[u8], count: usize) -> &[u8] {
     &groups[count.min(groups.len())..]
 }
 
-/// Hears groups behind nothing.
+/// Hears groups after nothing.
 fn hear_burst(rx: &mut PcsRx, groups: &[u8], frame: &[u8]) -> Told {
     let _ = rx.hear(Heard::Nothing, false);
     hear_groups(rx, groups, frame)

@@ -10,12 +10,12 @@ use Rattle.t1s_symbols.specs.declared.Class.{Class}
 use Rattle.t1s_symbols.specs.declared.Class.TheVariants.{None as Unread, Beacon, Run, Other}
 use Rattle.t1s_grammar.specs.declared.place.Phase.{Phase}
 use Rattle.t1s_grammar.specs.declared.place.PlaceFault.{PlaceFault}
-use Rattle.t1s_grammar.specs.Steps.{place_step, start_phase}
+use Rattle.t1s_grammar.specs.PlaceTable.{place_step, start_phase}
 use Rattle.t1s_pcs_rx.specs.declared.reader.Burst.{Burst as WholeBurst}
 use Rattle.t1s_pcs_rx.specs.declared.reader.Burst.TheVariants.{Outside as WholeOutside, Reading as WholeReading, Ended as WholeEnded}
 use Rattle.t1s_pcs_rx.specs.Receiver.{Receiver as Whole, receive_start}
-use Rattle.t1s_pcs_rx.specs.Receive.{receive_step, judged, class_after}
-use Rattle.t1s_pcs_rx.specs.Receive as whole
+use Rattle.t1s_pcs_rx.specs.ReceiveTable.{receive_step, after_judgement as judged, class_after}
+use Rattle.t1s_pcs_rx.specs.ReceiveTable as whole
 use Rattle.t1s_segment.specs.declared.receiver.Receiver.{Receiver}
 use Rattle.t1s_segment.specs.declared.receiver.Burst.{Burst}
 use Rattle.t1s_segment.specs.declared.receiver.Burst.TheVariants.{Outside, Reading, Ended}

@@ -2,7 +2,7 @@
 use Rattle.std.specs.Prelude.{◌≡◌, Bool, List, fold}
 use Rattle.t1s_symbols.specs.declared.Heard.{Heard}
 use Rattle.t1s_pcs_rx.specs.Receiver.{Receiver as Whole, receive_start}
-use Rattle.t1s_pcs_rx.specs.Receive.{receive_step}
+use Rattle.t1s_pcs_rx.specs.ReceiveTable.{receive_step}
 use Rattle.t1s_segment.specs.declared.receiver.Receiver.{Receiver}
 use Rattle.t1s_segment.specs.Receiver.{receiver_start, receiver_step}
 

@@ -32,7 +32,7 @@ same_symbol-refl H = refl
 same_symbol-refl N = refl
 same_symbol-refl S = refl
 
--- behind a part that is not the last one, only the next part of the same symbol follows
+-- after a part that is not the last one, only the next part of the same symbol follows
 pub continues-partial : (s : Symbol) (k : ℕ) (q : Quarter) → k < 3
     → continues (record { sym = s; part = k }) q ≡ (same_symbol s q.sym && (q.part == (k + 1)))
 continues-partial s k q below =

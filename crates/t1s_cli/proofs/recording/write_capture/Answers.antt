@@ -1,7 +1,7 @@
 use Rattle.std.proofs.Common.{◌≡◌, ◌+◌, ◌⊎◌, true, [], ◌∷◌, sym, ◌∙◌, ap, rules, add-one}
 use Rattle.std.specs.Option.{option_to_list}
 use Rattle.t1s_capture.specs.Captures.{header}
-use Rattle.t1s_capture.specs.Writing.{WriterState}
+use Rattle.t1s_capture.specs.WriterTable.{WriterState}
 use Rattle.t1s_segment.specs.World.{heard_by}
 use Rattle.t1s_cli.proofs.Recorded.{recorded_none, recorded_tick, recorded_no_tick, recorded_whole}
 use Rattle.t1s_cli.proofs.recording.write_capture.Goals as goal

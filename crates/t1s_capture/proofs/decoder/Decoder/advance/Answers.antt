@@ -1,7 +1,7 @@
 use Rattle.std.proofs.Common.{◌≡◌, subst}
 use Rattle.std.proofs.lemmas.Bool.{ne_eqb}
 use Rattle.t1s_capture.specs.State.{DecoderState}
-use Rattle.t1s_capture.specs.Advance.{advance}
+use Rattle.t1s_capture.specs.DecoderTable.{advance}
 use Rattle.t1s_capture.proofs.decoder.Decoder.advance.Goals as goal
 
 pub returns : goal.returns

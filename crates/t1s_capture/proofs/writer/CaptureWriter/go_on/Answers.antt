@@ -1,5 +1,5 @@
 use Rattle.std.proofs.Common.{◌≤◌, ◌+◌, ap, arith}
-use Rattle.t1s_capture.specs.Writing.{WriterState}
+use Rattle.t1s_capture.specs.WriterTable.{WriterState}
 use Rattle.t1s_capture.proofs.writer.CaptureWriter.go_on.Goals as goal
 use Rattle.t1s_capture.proofs.writer.CaptureWriter.go_on.Goals.{in-Nothing, in-One, in_default}
 

@@ -22,11 +22,11 @@ padding n place at =
 module _ (c : goal.After-append-3) where
   padded_is : c.append-2.new.held.items ≡ padded c.args.octets.now
   padded_is =
-      let behind : c.append-2.new.held.items ≡ c.append.new.held.items ++ take (60 - c.min.result) (drop c.min.result PADDING) =
+      let after_preamble : c.append-2.new.held.items ≡ c.append.new.held.items ++ take (60 - c.min.result) (drop c.min.result PADDING) =
       c.append-2.ensures in
       let before : c.append.new.held.items ≡ c.args.octets.now =
       c.append.ensures ∙ ap (λ xs. xs ++ c.args.octets.now) c.new-held.ensures in
-      behind ∙ ap (λ xs. xs ++ take (60 - c.min.result) (drop c.min.result PADDING)) before
+      after_preamble ∙ ap (λ xs. xs ++ take (60 - c.min.result) (drop c.min.result PADDING)) before
       ∙ ap (λ ys. c.args.octets.now ++ ys) (padding (length c.args.octets.now) c.min.result c.min.ensures)
 
   frame_is : c.append-3.new.held.items ≡ frame_of c.args.octets.now

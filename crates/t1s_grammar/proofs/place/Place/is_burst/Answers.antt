@@ -1,5 +1,5 @@
 use Rattle.std.proofs.Common.{◌≡◌, sym, ap, ◌∙◌}
-use Rattle.t1s_grammar.specs.Steps.{ends_burst}
+use Rattle.t1s_grammar.specs.PlaceTable.{ends_burst}
 use Rattle.t1s_grammar.proofs.Beginnings.{IsBurst-stands, stands-burst}
 use Rattle.t1s_grammar.proofs.place.Place.is_burst.Goals as goal
 

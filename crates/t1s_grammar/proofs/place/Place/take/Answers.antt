@@ -1,7 +1,7 @@
 use Rattle.std.proofs.Common.{◌≡◌, refl, is_ok, sym, ap, ◌∙◌}
-use Rattle.t1s_grammar.specs.Steps.{place_step}
+use Rattle.t1s_grammar.specs.PlaceTable.{place_step}
 use Rattle.t1s_grammar.specs.declared.place.PlaceFault.TheVariants.{TooLong}
-use Rattle.t1s_grammar.proofs.Judged.{taken, refused}
+use Rattle.t1s_grammar.proofs.Judgements.{taken, refused}
 use Rattle.t1s_grammar.proofs.Beginnings.{Stands-take, BeginsBurst-stands, taken-begins}
 use Rattle.t1s_grammar.proofs.Faults.{IsTooLong-stands, stands-too_long, taken-refused}
 use Rattle.t1s_grammar.proofs.place.Place.take.Goals as goal

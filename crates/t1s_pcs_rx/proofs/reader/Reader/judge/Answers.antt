@@ -1,17 +1,17 @@
 use Rattle.std.proofs.Common.{sym}
-use Rattle.t1s_pcs_rx.proofs.Kept.{closed-kept, kept-taken}
+use Rattle.t1s_pcs_rx.proofs.NibbleRoom.{closed-nibbles, room-taken}
 use Rattle.t1s_pcs_rx.proofs.reader.Reader.judge.Goals as goal
 
 pub invariant_of-self : goal.invariant_of-self
 invariant_of-self c =
-    let before = rw (← c.self.view_is) at c.requires.kept in
-    let after = kept-taken c.args.place c.in-Ok.next c.args.quarter.sym c.self.inside.descrambler c.self.inside.nibbles (sym c.in-Ok.ensures.step) before in
+    let before = rw (← c.self.view_is) at c.requires.heard in
+    let after = room-taken c.args.place c.in-Ok.next c.args.quarter.sym c.self.inside.descrambler c.self.inside.nibbles (sym c.in-Ok.ensures.step) before in
     record {
-      kept = rw (c.keep.ensures.nibbles, c.nibbles-groups.ensures.value) after;
+      heard = rw (c.keep.ensures.nibbles, c.nibbles-groups.ensures.value) after;
       ranges = c.keep.ensures.ranges;
     }
 
-pub returns-in-Ok-clause-kept : goal.returns-in-Ok-clause-kept
-returns-in-Ok-clause-kept c =
+pub returns-in-Ok-clause-heard : goal.returns-in-Ok-clause-heard
+returns-in-Ok-clause-heard c =
     rw (c.closing.ensures, c.keep.ensures.nibbles, ← c.self.view_is)
-    (closed-kept c.lead-lead.result c.nibbles-groups.result c.nibbles-groups.result c.self.inside.descrambler c.self.inside.nibbles c.args.quarter.sym)
+    (closed-nibbles c.lead-lead.result c.nibbles-groups.result c.nibbles-groups.result c.self.inside.descrambler c.self.inside.nibbles c.args.quarter.sym)

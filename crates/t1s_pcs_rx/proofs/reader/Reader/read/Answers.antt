@@ -1,8 +1,8 @@
 use Rattle.std.proofs.Common.{sym, ap, ◌∙◌}
 use Rattle.t1s_symbols.proofs.Quarters.{complete-from}
 use Rattle.t1s_pcs_rx.specs.Receiver.{Receiver}
-use Rattle.t1s_pcs_rx.specs.Receive.{quarter_heard}
-use Rattle.t1s_pcs_rx.proofs.Judged.{quarter-judged}
+use Rattle.t1s_pcs_rx.specs.ReceiveTable.{quarter_heard}
+use Rattle.t1s_pcs_rx.proofs.CompleteSymbols.{quarter-complete}
 use Rattle.t1s_pcs_rx.proofs.reader.Reader.read.Goals as goal
 
 pub returns-in-Complete-clause-after : goal.returns-in-Complete-clause-after
@@ -14,7 +14,7 @@ returns-in-Complete-clause-after c =
       nibbles = c.self.inside.nibbles;
     } in
     let whole = complete-from c.in-Reading.last c.args.quarter (sym c.reading.ensures ∙ c.in-Complete.is) in
-    quarter-judged old c.judge.new.self c.args.quarter c.args.own c.in-Reading.last c.in-Reading.fresh
+    quarter-complete old c.judge.new.self c.args.quarter c.args.own c.in-Reading.last c.in-Reading.fresh
     c.in-Reading.place c.self.inside.burst c.class_after-self-inside.result (sym c.replace.ensures.value ∙ c.in-Reading.is)
     whole.0 whole.1
     c.class_after-self-inside.ensures c.judge.ensures.after

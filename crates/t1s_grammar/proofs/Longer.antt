@@ -1,38 +1,63 @@
--- The beginning of a burst with one symbol more, and with a list of symbols more.
+-- The beginning of a burst with one symbol more.
 use Rattle.std.proofs.Common.{◌≡◌, refl, ℕ, zero, suc, ◌+◌, ◌<◌, ◌≤◌, Bool, true, false, List, [], ◌∷◌, ◌++◌, length, map, replicate, nat_lt, if◌then◌else◌, sym, ap, ◌∙◌, arith, append_assoc, length-append}
 use Rattle.std.specs.Prelude.{All}
-use Rattle.std.proofs.lemmas.Grind.{common_steps}
+use Rattle.std.proofs.lemmas.Grind.{common_steps, flat_map-append}
 use Rattle.std.proofs.lemmas.Bool.{ltb-true, ltb-false}
 use Rattle.std.proofs.lemmas.List.{append-nil, map-append, replicate-append-replicate}
 use Rattle.std.proofs.lemmas.List.Elements.{All-append}
 use Rattle.t1s_symbols.specs.declared.Symbol.{Symbol}
 use Rattle.t1s_symbols.specs.declared.Symbol.TheVariants.{Nibble, J, K, T, R, H, N, S}
 use Rattle.t1s_symbols.specs.Ranges.{IsSymbol}
-use Rattle.t1s_grammar.specs.Burst.{Piece, IsCloser, open_symbols, piece_symbols, pieces_symbols}
-use Rattle.t1s_grammar.specs.Prefixes.{Beginning, beginning_symbols, IsBeginning, phase_of, beacon, between, opened, within, ended}
-use Rattle.t1s_grammar.specs.Steps.{place_step, between_step, within_step, beacon_step, ended_step, opened_step}
+use Rattle.t1s_grammar.specs.Burst.{Piece, IsPieceInRange, IsCloser, open_symbols, piece_symbols, pieces_symbols}
+use Rattle.t1s_grammar.specs.Prefixes.{Beginning, beginning_symbols, IsBeginning, ArePieces, phase_of, beacon, between, opened, within, ended}
+use Rattle.t1s_grammar.specs.PlaceTable.{place_step, between_step, within_step, beacon_step, ended_step, opened_step}
 use Rattle.t1s_grammar.specs.declared.place.Phase.{Phase}
 use Rattle.t1s_grammar.specs.declared.place.Phase.TheVariants.{Beacon, Between, Opened, Within, Ended}
 use Rattle.t1s_grammar.specs.declared.place.PlaceFault.{PlaceFault}
 use Rattle.t1s_grammar.specs.declared.place.PlaceFault.TheVariants.{NotHere, TooLong}
-use Rattle.t1s_grammar.proofs.Judged.{Judgement, taken, refused}
-use Rattle.t1s_grammar.proofs.Beginnings.{All-nil, more_pieces, ArePieces-push, refused-taken}
-use Rattle.t1s_capture.specs.Captures.{no_symbols}
-use Rattle.t1s_capture.specs.Growing.{grown, piece_of}
+use Rattle.t1s_grammar.proofs.Judgements.{Judgement, taken, refused}
+use Rattle.t1s_grammar.specs.Longer.{with_symbol, piece_of}
 
--- what a symbol that is taken leaves
-pub record Taken (b : Beginning) (s : Symbol) (q : Phase) : Type 0 where
-  pub phase : phase_of (grown b s) ≡ q
-  pub symbols : beginning_symbols (grown b s) ≡ beginning_symbols b ++ s ∷ []
-  pub in_range : IsBeginning b → IsSymbol s → IsBeginning (grown b s)
+pub All-nil : {X : Type 0} (P : X → Type 0) → All P []
+All-nil P k d l = absurd (omega arith)
 
-taken-value : (x q : Phase) → taken x ≡ taken q → x ≡ q
+All-one : {X : Type 0} (P : X → Type 0) (x : X) → P x → All P (x ∷ [])
+All-one P x h zero d l = h
+All-one P x h (suc k) d l = absurd (omega arith)
+
+-- ---- whole pieces, and one more
+
+pub more_pieces : (ps : List Piece) (p : Piece) → pieces_symbols (ps ++ p ∷ []) ≡ pieces_symbols ps ++ piece_symbols p
+more_pieces ps p =
+    flat_map-append piece_symbols ps (p ∷ []) ∙ ap (λ ss. pieces_symbols ps ++ ss) (append-nil (piece_symbols p))
+
+pub ArePieces-push : (ps : List Piece) (p : Piece) → ArePieces ps 4095 → IsPieceInRange p → ArePieces (ps ++ p ∷ []) 4096
+ArePieces-push ps p h here =
+    let few : length ps ≤ 4095 = h.count in
+    record {
+      count = omega (arith, length-append ps (p ∷ []));
+      in_range = All-append IsPieceInRange ps (p ∷ []) h.in_range (All-one IsPieceInRange p here);
+    }
+
+pub open-append : (lead : ℕ) (a b : List ℕ) → open_symbols lead (a ++ b) ≡ open_symbols lead a ++ map Nibble b
+open-append lead a b =
+    ap (λ ss. replicate lead J ++ H ∷ H ∷ ss) (map-append Nibble a b)
+    ∙ sym (append_assoc (replicate lead J) (H ∷ H ∷ map Nibble a) (map Nibble b))
+
+-- ---- a symbol that is taken
+
+pub taken-value : (x q : Phase) → taken x ≡ taken q → x ≡ q
 taken-value x q h = cc
 
+pub refused-taken : (e : PlaceFault) (q : Phase) → refused e ≡ taken q → ⊥
+refused-taken e q h = cc
+
+-- a test that lets a symbol through
 let_through : (b : Bool) (x q : Phase) (e : PlaceFault) → (if b then taken x else refused e) ≡ taken q → (b ≡ true) × (x ≡ q)
 let_through true x q e h = (refl, taken-value x q h)
 let_through false x q e h = absurd (refused-taken e q h)
 
+-- and one that stops it
 stopped : (b : Bool) (r : Judgement) (q : Phase) (e : PlaceFault)
     → (if b then refused e else r) ≡ taken q → (b ≡ false) × (r ≡ taken q)
 stopped true r q e h = absurd (refused-taken e q h)
@@ -40,6 +65,12 @@ stopped false r q e h = (refl, h)
 
 one_more : {A : Type 0} (n : ℕ) (a : A) → replicate (n + 1) a ≡ replicate n a ++ a ∷ []
 one_more n a = sym (replicate-append-replicate n 1 a)
+
+-- what a symbol that is taken leaves
+pub record Taken (b : Beginning) (s : Symbol) (q : Phase) : Type 0 where
+  pub phase : phase_of (with_symbol b s) ≡ q
+  pub symbols : beginning_symbols (with_symbol b s) ≡ beginning_symbols b ++ s ∷ []
+  pub in_range : IsBeginning b → IsSymbol s → IsBeginning (with_symbol b s)
 
 beacon_more : (count : ℕ) (s : Symbol) (q : Phase) → beacon_step count s ≡ taken q → Taken (beacon count) s q
 beacon_more count N q e =
@@ -95,11 +126,6 @@ opened_more ps lead H q e =
       in_range = λ h k. (h.0, h.1, record { fewest = omega arith; most = omega arith; ranges = All-nil (λ n. n < 16) });
     }
 opened_more ps lead _ q e = absurd (refused-taken NotHere q e)
-
-open-append : (lead : ℕ) (a b : List ℕ) → open_symbols lead (a ++ b) ≡ open_symbols lead a ++ map Nibble b
-open-append lead a b =
-    ap (λ ss. replicate lead J ++ H ∷ H ∷ ss) (map-append Nibble a b)
-    ∙ sym (append_assoc (replicate lead J) (H ∷ H ∷ map Nibble a) (map Nibble b))
 
 one_below : (n : ℕ) → n < 16 → All (λ m. m < 16) (n ∷ [])
 one_below n h zero d l = h
@@ -175,67 +201,3 @@ more (between ps lead) s q e = between_more ps lead s q e
 more (opened ps lead) s q e = opened_more ps lead s q e
 more (within ps lead ns) s q e = within_more ps lead ns s q e
 more (ended ps lead ns) s q e = ended_more ps lead ns s q e
-
--- ---- a list of symbols
-
-abbrev pub grown_all : Beginning → List Symbol → Beginning
-grown_all b [] = b
-grown_all b (s ∷ ss) = grown_all (grown b s) ss
-
-grown-append : (b : Beginning) (xs ys : List Symbol) → grown_all b (xs ++ ys) ≡ grown_all (grown_all b xs) ys
-grown-append b [] ys = refl
-grown-append b (x ∷ xs) ys = grown-append (grown b x) xs ys
-
-grown-leads : (n i : ℕ) (ps : List Piece) → grown_all (between ps i) (replicate n J) ≡ between ps (i + n)
-grown-leads zero i ps = let same : i ≡ i + 0 = omega arith in ap (between ps) same
-grown-leads (suc n) i ps =
-    let same : i + 1 + n ≡ i + suc n = omega arith in grown-leads n (i + 1) ps ∙ ap (between ps) same
-
-grown-lead : (n : ℕ) (ps : List Piece) → grown_all (between ps 0) (replicate n J) ≡ between ps n
-grown-lead n ps = let same : 0 + n ≡ n = omega arith in grown-leads n 0 ps ∙ ap (between ps) same
-
-grown-beacon : (n i : ℕ) → grown_all (beacon i) (replicate n N) ≡ beacon (i + n)
-grown-beacon zero i = let same : i ≡ i + 0 = omega arith in ap beacon same
-grown-beacon (suc n) i = let same : i + 1 + n ≡ i + suc n = omega arith in grown-beacon n (i + 1) ∙ ap beacon same
-
-grown-nibbles : (xs ns : List ℕ) (ps : List Piece) (lead : ℕ)
-    → grown_all (within ps lead ns) (map Nibble xs) ≡ within ps lead (ns ++ xs)
-grown-nibbles [] ns ps lead = ap (within ps lead) (sym (append-nil ns))
-grown-nibbles (x ∷ xs) ns ps lead =
-    grown-nibbles xs (ns ++ x ∷ []) ps lead ∙ ap (within ps lead) (append_assoc ns (x ∷ []) xs)
-
-grown-open : (ps : List Piece) (lead : ℕ) (ns : List ℕ) → grown_all (between ps 0) (open_symbols lead ns) ≡ within ps lead ns
-grown-open ps lead ns =
-    grown-append (between ps 0) (replicate lead J) (H ∷ H ∷ map Nibble ns)
-    ∙ ap (λ b. grown_all b (H ∷ H ∷ map Nibble ns)) (grown-lead lead ps)
-    ∙ grown-nibbles ns [] ps lead
-
-grown-piece : (ps : List Piece) (p : Piece) → grown_all (between ps 0) (piece_symbols p) ≡ between (ps ++ p ∷ []) 0
-grown-piece ps p =
-    grown-append (between ps 0) (open_symbols p.lead p.nibbles) (T ∷ p.closer ∷ [])
-    ∙ ap (λ b. grown_all b (T ∷ p.closer ∷ [])) (grown-open ps p.lead p.nibbles)
-
-grown-pieces : (qs ps : List Piece) → grown_all (between ps 0) (pieces_symbols qs) ≡ between (ps ++ qs) 0
-grown-pieces [] ps = ap (λ xs. between xs 0) (sym (append-nil ps))
-grown-pieces (q ∷ qs) ps =
-    grown-append (between ps 0) (piece_symbols q) (pieces_symbols qs)
-    ∙ ap (λ b. grown_all b (pieces_symbols qs)) (grown-piece ps q)
-    ∙ grown-pieces qs (ps ++ q ∷ [])
-    ∙ ap (λ xs. between xs 0) (append_assoc ps (q ∷ []) qs)
-
-grown-run : (ps : List Piece) (ss : List Symbol) → grown_all no_symbols (pieces_symbols ps ++ ss) ≡ grown_all (between ps 0) ss
-grown-run ps ss =
-    grown-append no_symbols (pieces_symbols ps) ss ∙ ap (λ b. grown_all b ss) (grown-pieces ps [])
-
--- a beginning grows from its symbols
-pub regrown : (b : Beginning) → IsBeginning b → grown_all no_symbols (beginning_symbols b) ≡ b
-regrown (beacon zero) h = absurd (omega arith)
-regrown (beacon (suc n)) h = let same : 1 + n ≡ suc n = omega arith in grown-beacon n 1 ∙ ap beacon same
-regrown (between ps lead) h = grown-run ps (replicate lead J) ∙ grown-lead lead ps
-regrown (opened ps lead) h =
-    grown-append no_symbols (pieces_symbols ps ++ replicate lead J) (H ∷ [])
-    ∙ ap (λ b. grown_all b (H ∷ [])) (grown-run ps (replicate lead J) ∙ grown-lead lead ps)
-regrown (within ps lead ns) h = grown-run ps (open_symbols lead ns) ∙ grown-open ps lead ns
-regrown (ended ps lead ns) h =
-    grown-append no_symbols (pieces_symbols ps ++ open_symbols lead ns) (T ∷ [])
-    ∙ ap (λ b. grown_all b (T ∷ [])) (grown-run ps (open_symbols lead ns) ∙ grown-open ps lead ns)

@@ -12,7 +12,7 @@ counted_octets (One a) = a ∷ []
 counted_octets (Two a b) = a ∷ b ∷ []
 counted_octets (Three a b c) = a ∷ b ∷ c ∷ []
 
--- what stands behind the items that are complete
+-- what stands after the items that are complete
 pub data Tail : Type 0 where
   -- a gap with some octets of its count
   in_gap : (count : CountSoFar) → Tail
@@ -45,25 +45,25 @@ IsTail items after_torn =
 IsTail items ended = IsItemList items
 
 -- some octets of the magic, all of them, those and the version, or a header with items and a tail
-pub data Front : Type 0 where
-  in_magic : (n : ℕ) → Front
-  at_version : Front
-  at_node : Front
-  behind : (node : ℕ) → (items : List CaptureItem) → (tail : Tail) → Front
+pub data PrefixParts : Type 0 where
+  in_magic : (n : ℕ) → PrefixParts
+  at_version : PrefixParts
+  at_node : PrefixParts
+  with_items : (node : ℕ) → (items : List CaptureItem) → (tail : Tail) → PrefixParts
 
-abbrev pub front_octets : Front → List ℕ
-front_octets (in_magic n) = take n magic
-front_octets at_version = magic
-front_octets at_node = magic ++ 0x01 ∷ []
-front_octets (behind node items tail) = begun_text node items ++ tail_octets tail
+abbrev pub parts_octets : PrefixParts → List ℕ
+parts_octets (in_magic n) = take n magic
+parts_octets at_version = magic
+parts_octets at_node = magic ++ 0x01 ∷ []
+parts_octets (with_items node items tail) = begun_text node items ++ tail_octets tail
 
-abbrev pub IsFront : Front → Type 0
-IsFront (in_magic n) = n < 4
-IsFront at_version = Unit {0}
-IsFront at_node = Unit {0}
-IsFront (behind node items tail) = (node < 16) × IsTail items tail
+abbrev pub ArePartsInRange : PrefixParts → Type 0
+ArePartsInRange (in_magic n) = n < 4
+ArePartsInRange at_version = Unit {0}
+ArePartsInRange at_node = Unit {0}
+ArePartsInRange (with_items node items tail) = (node < 16) × IsTail items tail
 
 -- the octets are made of this
-pub record AreMadeOf (octets : List ℕ) (front : Front) : Type 0 where
-  pub in_range : IsFront front
-  pub text : octets ≡ front_octets front
+pub record AreMadeOf (octets : List ℕ) (parts : PrefixParts) : Type 0 where
+  pub in_range : ArePartsInRange parts
+  pub text : octets ≡ parts_octets parts

@@ -15,7 +15,7 @@ abbrev pub beacon_step : ℕ → Symbol → Result Phase PlaceFault
 beacon_step count N = if nat_lt count 5 then Ok (Beacon (count + 1)) else Err NotHere
 beacon_step count _ = Err NotHere
 
--- behind pieces, and some J
+-- after pieces, and some J
 abbrev pub between_step : ℕ → ℕ → Symbol → Result Phase PlaceFault
 between_step closed lead J = if nat_lt lead 4096 then Ok (Between closed (lead + 1)) else Err TooLong
 between_step closed lead H =
@@ -23,7 +23,7 @@ between_step closed lead H =
 between_step closed lead N = if closed == 0 && (lead == 0) then Ok (Beacon 1) else Err NotHere
 between_step closed lead _ = Err NotHere
 
--- behind the first H of a piece
+-- after the first H of a piece
 abbrev pub opened_step : ℕ → ℕ → Symbol → Result Phase PlaceFault
 opened_step closed lead H = Ok (Within closed lead 0)
 opened_step closed lead _ = Err NotHere
@@ -35,7 +35,7 @@ within_step closed lead nibbles (Nibble n) =
 within_step closed lead nibbles T = if nat_lt nibbles 9 then Err NotHere else Ok (Ended closed lead nibbles)
 within_step closed lead nibbles _ = Err NotHere
 
--- behind the T of a piece
+-- after the T of a piece
 abbrev pub ended_step : ℕ → Symbol → Result Phase PlaceFault
 ended_step closed R = Ok (Between (closed + 1) 0)
 ended_step closed K = Ok (Between (closed + 1) 0)
@@ -49,7 +49,7 @@ place_step (Opened closed lead) s = opened_step closed lead s
 place_step (Within closed lead nibbles) s = within_step closed lead nibbles s
 place_step (Ended closed lead nibbles) s = ended_step closed s
 
--- how many pieces are closed, how many J stand behind these, and how many nibbles behind these
+-- how many pieces are closed, how many J stand after these, and how many nibbles after these
 abbrev pub pieces_at : Phase → ℕ
 pieces_at (Beacon count) = 0
 pieces_at (Between closed lead) = closed

@@ -5,7 +5,7 @@ use Rattle.t1s_symbols.specs.declared.Symbol.{Symbol}
 use Rattle.t1s_symbols.specs.declared.Quarter.{Quarter}
 use Rattle.t1s_symbols.specs.GroupTable.{group}
 use Rattle.t1s_symbols.specs.Quarters.{continues_last}
-use Rattle.t1s_grammar.specs.Steps.{start_phase, place_step, ends_burst}
+use Rattle.t1s_grammar.specs.PlaceTable.{start_phase, place_step, ends_burst}
 use Rattle.t1s_grammar.specs.declared.place.Phase.{Phase}
 use Rattle.t1s_grammar.specs.declared.place.PlaceFault.{PlaceFault}
 use Rattle.t1s_capture.specs.declared.row.ReadingSoFar.{ReadingSoFar}
@@ -112,9 +112,9 @@ abbrev pub RowIsKind : List Tick → RowSoFar → Type 0
 RowIsKind [] row = row ≡ Empty
 RowIsKind (t ∷ ts) row = IsKind (is_silent t) row
 
--- A writer stands for the ticks that were handed in, of which it has given out some octets behind the header: those of
+-- A writer stands for the ticks that were handed in, of which it has given out some octets after the header: those of
 -- the items before the row that the ticks end in, and those of the symbols in that row.
-pub record Writes (ticks : List Tick) (given : List ℕ) (writer : WriterState) : Type 0 where
+pub record WriterStands (ticks : List Tick) (given : List ℕ) (writer : WriterState) : Type 0 where
   pub items : List CaptureItem
   pub row : List Tick
   pub cuts : (more : List Tick) → cut (ticks ++ more) ≡ items ++ cut_from row more

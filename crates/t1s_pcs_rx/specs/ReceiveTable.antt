@@ -11,7 +11,7 @@ use Rattle.t1s_symbols.specs.Quarters.{continues_last}
 use Rattle.t1s_scramble.specs.Scrambled.{descrambled_nibble, descrambler_after}
 use Rattle.t1s_grammar.specs.declared.place.Phase.{Phase}
 use Rattle.t1s_grammar.specs.declared.place.PlaceFault.{PlaceFault}
-use Rattle.t1s_grammar.specs.Steps.{start_phase, place_step, lead_at, nibbles_at}
+use Rattle.t1s_grammar.specs.PlaceTable.{start_phase, place_step, lead_at, nibbles_at}
 use Rattle.t1s_pcs_rx.specs.declared.piece.Closer.TheVariants.{R, K, S}
 use Rattle.t1s_pcs_rx.specs.declared.reader.Burst.{Burst}
 use Rattle.t1s_pcs_rx.specs.declared.reader.Burst.TheVariants.{Outside, Reading, Ended}
@@ -54,13 +54,13 @@ abbrev pub history_after : List Bool → Symbol → List Bool
 history_after past (Nibble n) = descrambler_after past (n ∷ [])
 history_after past _ = past
 
--- the nibbles of a piece begin behind its two H, and those from the tenth on are kept, descrambled. The number
+-- the nibbles of a piece begin after its two H, and those from the tenth on are kept, descrambled. The number
 -- counts the nibbles of the piece so far
 abbrev pub nibbles_after : ℕ → List Bool → List ℕ → Symbol → List ℕ
-nibbles_after count past kept H = []
-nibbles_after count past kept (Nibble n) =
-    if nat_lt count 9 then kept else kept ++ descrambled_nibble past n ∷ []
-nibbles_after count past kept _ = kept
+nibbles_after count past heard H = []
+nibbles_after count past heard (Nibble n) =
+    if nat_lt count 9 then heard else heard ++ descrambled_nibble past n ∷ []
+nibbles_after count past heard _ = heard
 
 -- ---- a tick
 
@@ -81,19 +81,19 @@ abbrev pub ended : Receiver → Bool → Receiver
 ended r own = ended_from r own r.burst
 
 -- a symbol that is complete is judged: it is taken, or it ends the reading of the burst
-abbrev pub judged : Receiver → Quarter → Class → Phase → Result Phase PlaceFault → Receiver
-judged r q class place (Ok next) = record {
+abbrev pub after_judgement : Receiver → Quarter → Class → Phase → Result Phase PlaceFault → Receiver
+after_judgement r q class place (Ok next) = record {
   class = class;
   burst = Reading (Some q) false next;
   history = history_after r.history q.sym;
   nibbles = nibbles_after (nibbles_at place) r.history r.nibbles q.sym;
 }
-judged r q class place (Err fault) = record r { class = class; burst = Ended }
+after_judgement r q class place (Err fault) = record r { class = class; burst = Ended }
 
 -- a quarter of part 3 completes a symbol
 abbrev pub quarter_taken : Receiver → Quarter → Bool → Phase → Receiver
 quarter_taken r q fresh place =
-    if q.part == 3 then judged r q (class_after r.class fresh q.sym) place (place_step place q.sym)
+    if q.part == 3 then after_judgement r q (class_after r.class fresh q.sym) place (place_step place q.sym)
     else record r { burst = Reading (Some q) fresh place }
 
 abbrev pub quarter_from : Receiver → Quarter → Bool → Burst → Receiver

@@ -7,7 +7,7 @@ use Rattle.t1s_scramble.specs.Scrambled.{descrambled_nibble, descrambler_after}
 use Rattle.t1s_grammar.specs.declared.place.Phase.{Phase}
 use Rattle.t1s_grammar.specs.declared.place.PlaceFault.{PlaceFault}
 use Rattle.t1s_grammar.specs.declared.place.PlaceFault.TheVariants.{NotHere, TooLong as OneTooMany}
-use Rattle.t1s_grammar.specs.Steps.{start_phase, place_step, pieces_at, lead_at, nibbles_at, ends_burst}
+use Rattle.t1s_grammar.specs.PlaceTable.{start_phase, place_step, pieces_at, lead_at, nibbles_at, ends_burst}
 use Rattle.t1s_pcs_rx.specs.Views.{View, view_by, closer_of}
 use Rattle.t1s_capture.specs.declared.items.Why.{Why}
 use Rattle.t1s_capture.specs.declared.items.Why.TheVariants.{Magic as BadMagic, Version as BadVersion, NodeByte, CountZero, GapTwice, Group, Place, BurstLong, AfterEnd, TooLong, Truncated}
@@ -19,8 +19,8 @@ use Rattle.t1s_capture.specs.declared.stage.BurstSoFar.{BurstSoFar}
 use Rattle.t1s_capture.specs.declared.stage.BlurSoFar.{BlurSoFar}
 use Rattle.t1s_capture.specs.declared.stage.Stage.{Stage}
 use Rattle.t1s_capture.specs.declared.stage.Stage.TheVariants.{Magic, Version, Node, InGap, InBurst, InBlur, AfterTorn, Ended}
-use Rattle.t1s_capture.specs.declared.stage.Mark.{Mark}
-use Rattle.t1s_capture.specs.declared.stage.Mark.TheVariants.{Gap, End, Torn, Known, Unknown}
+use Rattle.t1s_capture.specs.declared.stage.OctetKind.{OctetKind}
+use Rattle.t1s_capture.specs.declared.stage.OctetKind.TheVariants.{Gap, End, Torn, Known, Unknown}
 use Rattle.t1s_capture.specs.declared.progress.Progress.{Progress}
 use Rattle.t1s_capture.specs.declared.decoder.Next.{Next}
 use Rattle.t1s_capture.specs.declared.decoder.Next.TheVariants.{More, Held, Refused}
@@ -35,25 +35,25 @@ use Rattle.t1s_capture.specs.DecodedItems.{DecodedItem, PieceItem, BeaconItem, R
 abbrev pub with_nibble : ReaderState → ℕ → ℕ → ReaderState
 with_nibble r before n = record {
   history = descrambler_after r.history (n ∷ []);
-  kept = if nat_lt before 9 then r.kept else r.kept ++ descrambled_nibble r.history n ∷ [];
+  nibbles = if nat_lt before 9 then r.nibbles else r.nibbles ++ descrambled_nibble r.history n ∷ [];
 }
 
 abbrev pub without_nibbles : ReaderState → ReaderState
-without_nibbles r = record { history = r.history; kept = [] }
+without_nibbles r = record { history = r.history; nibbles = [] }
 
 -- ---- marks and counts
 
 -- what an octet is where an item or a symbol may be tried
-abbrev pub symbol_mark : Option Symbol → Mark
-symbol_mark None = Unknown
-symbol_mark (Some s) = Known s
+abbrev pub symbol_kind : Option Symbol → OctetKind
+symbol_kind None = Unknown
+symbol_kind (Some s) = Known s
 
-abbrev pub mark : ℕ → Mark
-mark octet =
+abbrev pub octet_kind : ℕ → OctetKind
+octet_kind octet =
     if octet == 0x20 then Gap
     else (if octet == 0x21 then End
     else (if octet == 0x22 then Torn
-    else symbol_mark (symbol octet)))
+    else symbol_kind (symbol octet)))
 
 -- a count by its four octets, the high one first
 abbrev pub count_of : ℕ → ℕ → ℕ → ℕ → ℕ
@@ -131,15 +131,15 @@ with_piece c good = record {
 abbrev pub refuses : Progress → Why → Next
 refuses p why = Refused (record { offset = p.taken; why = why })
 
--- the decoder behind one more octet
-abbrev pub behind_octet : Progress → Counts → ReaderState → Stage → DecoderState
-behind_octet p counts reader stage = record { taken = p.taken + 1; counts = counts; reader = reader; stage = stage }
+-- the decoder after one more octet
+abbrev pub after_octet : Progress → Counts → ReaderState → Stage → DecoderState
+after_octet p counts reader stage = record { taken = p.taken + 1; counts = counts; reader = reader; stage = stage }
 
 abbrev pub goes : Progress → Stage → Next
-goes p stage = More (behind_octet p p.counts p.reader stage)
+goes p stage = More (after_octet p p.counts p.reader stage)
 
-abbrev pub hands : DecodedItem → Progress → Counts → ReaderState → Stage → Next
-hands item p counts reader stage = Held (record { item = item; decoder = behind_octet p counts reader stage })
+abbrev pub yields : DecodedItem → Progress → Counts → ReaderState → Stage → Next
+yields item p counts reader stage = Held (record { item = item; decoder = after_octet p counts reader stage })
 
 -- ---- the header
 
@@ -150,7 +150,7 @@ magic_step p n octet =
 
 -- no symbol yet, where a burst may begin
 abbrev pub no_burst : Bool → BurstSoFar
-no_burst behind_gap = record { place = start_phase; symbols = 0; closed = 0; behind_gap = behind_gap }
+no_burst after_gap = record { place = start_phase; symbols = 0; closed = 0; after_gap = after_gap }
 
 abbrev pub version_step : Progress → ℕ → Next
 version_step p octet = if octet == 1 then goes p Node else refuses p BadVersion
@@ -163,7 +163,7 @@ node_step p octet = if nat_lt octet 16 then goes p (InBurst (no_burst false)) el
 abbrev pub gap_ends : Progress → ℕ → Next
 gap_ends p n =
     if n == 0 then refuses p CountZero
-    else More (behind_octet p (with_ticks p.counts n) p.reader (InBurst (no_burst true)))
+    else More (after_octet p (with_ticks p.counts n) p.reader (InBurst (no_burst true)))
 
 abbrev pub gap_step : Progress → CountSoFar → ℕ → Next
 gap_step p Nothing d = goes p (InGap (One d))
@@ -174,7 +174,7 @@ gap_step p (Three a b c) d = gap_ends p (count_of a b c d)
 abbrev pub blur_ends : Progress → BlurSoFar → ℕ → Next
 blur_ends p blur n =
     if blur.needed && (n == 0) then refuses p CountZero
-    else hands (TornItem p.counts.ticks (p.counts.ticks + (4 * blur.symbols + n)) blur.symbols n) p
+    else yields (TornItem p.counts.ticks (p.counts.ticks + (4 * blur.symbols + n)) blur.symbols n) p
     (with_torn (with_ticks p.counts (4 * blur.symbols + n))) p.reader AfterTorn
 
 abbrev pub counting : Progress → BlurSoFar → CountSoFar → Next
@@ -191,7 +191,7 @@ blur_step p blur d = blur_step_by blur.count p blur d
 
 -- ---- bursts
 
--- the item of a whole burst, by how many pieces it has and how many J stand behind these
+-- the item of a whole burst, by how many pieces it has and how many J stand after these
 abbrev pub whole_item : ℕ → ℕ → ℕ → ℕ → DecodedItem
 whole_item pieces lead start end =
     if pieces == 0 then (if lead == 0 then BeaconItem start else BareItem start end) else RunItem start end pieces
@@ -202,61 +202,61 @@ with_whole pieces lead c =
 
 abbrev pub burst_ends : Progress → BurstSoFar → Stage → Next
 burst_ends p burst stage =
-    hands
+    yields
     (whole_item (pieces_at burst.place) (lead_at burst.place) p.counts.ticks (p.counts.ticks + 4 * burst.symbols))
     p
     (with_whole (pieces_at burst.place) (lead_at burst.place) (with_ticks p.counts (4 * burst.symbols)))
     p.reader stage
 
--- 20 behind these symbols
+-- 20 after these symbols
 abbrev pub gap_here : Progress → BurstSoFar → Next
 gap_here p burst =
     if ends_burst burst.place then burst_ends p burst (InGap Nothing)
-    else (if burst.symbols == 0 then (if burst.behind_gap then refuses p GapTwice else goes p (InGap Nothing))
+    else (if burst.symbols == 0 then (if burst.after_gap then refuses p GapTwice else goes p (InGap Nothing))
     else refuses p Place)
 
--- 21 behind these symbols
+-- 21 after these symbols
 abbrev pub end_here : Progress → BurstSoFar → Next
 end_here p burst =
     if ends_burst burst.place then burst_ends p burst Ended
     else (if burst.symbols == 0 then goes p Ended else refuses p Place)
 
--- 22 behind these symbols
+-- 22 after these symbols
 abbrev pub torn_here : Progress → BurstSoFar → Next
 torn_here p burst =
-    More (behind_octet p p.counts (without_nibbles p.reader)
+    More (after_octet p p.counts (without_nibbles p.reader)
     (InBlur (record {
       needed = (burst.symbols == 0) || ends_burst burst.place;
       symbols = burst.symbols;
       count = Nothing;
     })))
 
--- the symbols with one more, behind which the place is this
+-- the symbols with one more, after which the place is this
 abbrev pub longer : BurstSoFar → Phase → BurstSoFar
 longer burst place =
-    record { place = place; symbols = burst.symbols + 1; closed = burst.closed; behind_gap = burst.behind_gap }
+    record { place = place; symbols = burst.symbols + 1; closed = burst.closed; after_gap = burst.after_gap }
 
 -- the view of the piece that a closer ends here
 abbrev pub view_here : Progress → ℕ → ℕ → Symbol → View
-view_here p lead groups s = view_by lead groups (closer_of s) p.reader.kept
+view_here p lead groups s = view_by lead groups (closer_of s) p.reader.nibbles
 
 -- A closer, with which the symbols are these: it ends a piece of this lead and so many groups.
 abbrev pub piece_ends : Progress → ℕ → ℕ → Symbol → BurstSoFar → Next
 piece_ends p lead groups s burst =
-    hands (PieceItem (p.counts.ticks + 4 * burst.closed) (view_here p lead groups s)) p
+    yields (PieceItem (p.counts.ticks + 4 * burst.closed) (view_here p lead groups s)) p
     (with_piece p.counts (is_good (view_here p lead groups s))) (without_nibbles p.reader)
     (InBurst (record {
       place = burst.place;
       symbols = burst.symbols;
       closed = burst.symbols;
-      behind_gap = burst.behind_gap;
+      after_gap = burst.after_gap;
     }))
 
 -- A symbol that may stand here, with which the symbols are these. The piece that is begun had this lead and so many
 -- groups before it.
 abbrev pub symbol_taken : Progress → ℕ → ℕ → Symbol → BurstSoFar → Next
 symbol_taken p lead groups (Nibble n) burst =
-    More (behind_octet p p.counts (with_nibble p.reader groups n) (InBurst burst))
+    More (after_octet p p.counts (with_nibble p.reader groups n) (InBurst burst))
 symbol_taken p lead groups R burst = piece_ends p lead groups R burst
 symbol_taken p lead groups K burst = piece_ends p lead groups K burst
 symbol_taken p lead groups S burst = piece_ends p lead groups S burst
@@ -265,21 +265,21 @@ symbol_taken p lead groups T burst = goes p (InBurst burst)
 symbol_taken p lead groups H burst = goes p (InBurst burst)
 symbol_taken p lead groups N burst = goes p (InBurst burst)
 
-abbrev pub symbol_judged : Progress → BurstSoFar → Symbol → Result Phase PlaceFault → Next
-symbol_judged p burst s (Ok place) =
+abbrev pub symbol_step : Progress → BurstSoFar → Symbol → Result Phase PlaceFault → Next
+symbol_step p burst s (Ok place) =
     symbol_taken p (lead_at burst.place) (nibbles_at burst.place) s (longer burst place)
-symbol_judged p burst s (Err OneTooMany) = refuses p BurstLong
-symbol_judged p burst s (Err NotHere) = refuses p Place
+symbol_step p burst s (Err OneTooMany) = refuses p BurstLong
+symbol_step p burst s (Err NotHere) = refuses p Place
 
-abbrev pub burst_step_by : Mark → Progress → BurstSoFar → Next
+abbrev pub burst_step_by : OctetKind → Progress → BurstSoFar → Next
 burst_step_by Gap p burst = gap_here p burst
 burst_step_by End p burst = end_here p burst
 burst_step_by Torn p burst = torn_here p burst
-burst_step_by (Known s) p burst = symbol_judged p burst s (place_step burst.place s)
+burst_step_by (Known s) p burst = symbol_step p burst s (place_step burst.place s)
 burst_step_by Unknown p burst = refuses p Group
 
--- behind a torn burst
-abbrev pub torn_step_by : Mark → Progress → Next
+-- after a torn burst
+abbrev pub torn_step_by : OctetKind → Progress → Next
 torn_step_by Gap p = goes p (InGap Nothing)
 torn_step_by End p = goes p Ended
 torn_step_by Torn p = refuses p Place
@@ -293,9 +293,9 @@ stage_step (Magic n) p octet = magic_step p n octet
 stage_step Version p octet = version_step p octet
 stage_step Node p octet = node_step p octet
 stage_step (InGap count) p octet = gap_step p count octet
-stage_step (InBurst burst) p octet = burst_step_by (mark octet) p burst
+stage_step (InBurst burst) p octet = burst_step_by (octet_kind octet) p burst
 stage_step (InBlur blur) p octet = blur_step p blur octet
-stage_step AfterTorn p octet = torn_step_by (mark octet) p
+stage_step AfterTorn p octet = torn_step_by (octet_kind octet) p
 stage_step Ended p octet = refuses p AfterEnd
 
 abbrev pub progress_of : DecoderState → Progress

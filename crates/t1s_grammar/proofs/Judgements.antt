@@ -7,7 +7,7 @@ use Rattle.t1s_symbols.specs.declared.Symbol.{Symbol}
 use Rattle.t1s_symbols.specs.declared.Symbol.TheVariants.{Nibble, J, K, T, R, H, N, S}
 use Rattle.t1s_grammar.specs.Burst.{Piece, IsPieceInRange, IsCloser, open_symbols, piece_symbols, pieces_symbols, IsBurst, beacon, run, bare}
 use Rattle.t1s_grammar.specs.Prefixes.{Beginning, beginning_symbols, IsBeginning, IsLead, phase_of, Stands, beacon as in_beacon, between, opened, within, ended}
-use Rattle.t1s_grammar.specs.Steps.{start_phase, place_step, between_step, within_step, beacon_step, ended_step, ends_burst}
+use Rattle.t1s_grammar.specs.PlaceTable.{start_phase, place_step, between_step, within_step, beacon_step, ended_step, ends_burst}
 use Rattle.t1s_grammar.specs.declared.place.Phase.{Phase}
 use Rattle.t1s_grammar.specs.declared.place.Phase.TheVariants.{Beacon, Between, Opened, Within, Ended}
 use Rattle.t1s_grammar.specs.declared.place.PlaceFault.{PlaceFault}

@@ -1,6 +1,8 @@
 -- What was read of an input stands for all of it.
 use Rattle.std.proofs.Common.{◌≡◌, ◌⊎◌, ℕ, ◌+◌, ◌<◌, ◌≤◌, List, [], ◌++◌, length, drop, Option, Some, None, refl, sym, ◌∙◌, ap, arith, inl, inr, length-append, lt-ltb}
+use Rattle.std.specs.Prelude.{IsOk}
 use Rattle.std.proofs.Math.Seq.{drop-append_seam}
+use Rattle.std.proofs.lemmas.Bool.{cases_lt}
 use Rattle.std.proofs.lemmas.List.{append-nil, drop_all}
 use Rattle.t1s_base.specs.Octets.{Gives}
 use Rattle.t1s_script.specs.Reading.{script_of}
@@ -36,3 +38,10 @@ pub rest_of_reading : (before after : Option (List ℕ)) (bytes octets : List �
 rest_of_reading before after bytes octets gives whole bound told =
     let (rest, left, all) = split before after bytes octets gives told in
     left ∙ ap Some (behind 1048577 bytes rest octets all bound (whole rest left))
+
+-- an input that is a script is read to its end
+pub all_of_script : (octets : List ℕ) → IsOk (script_of octets) → drop 1048577 octets ≡ []
+all_of_script octets ok = elim (cases_lt 1048576 (length octets)) [
+  | inl long ↦ absurd (let no = rw (lt-ltb 1048576 (length octets) long) at ok in cc)
+  | inr few ↦ drop_all 1048577 octets (omega arith)
+]

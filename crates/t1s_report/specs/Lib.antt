@@ -1,0 +1,10 @@
+pub mod Lines
+pub mod EventLines
+pub mod SummaryLines
+pub mod FitnessLines
+pub mod RefusalLines
+pub mod ItemLines
+pub mod Report
+pub mod HeardText
+pub mod DecodedText
+pub mod WriterStep

@@ -14,7 +14,7 @@ use Rattle.t1s_report.specs.HeardText.{ticks_heard, heard_text}
 use Rattle.t1s_report.specs.WriterStep.{WriterStep}
 use Rattle.t1s_report.proofs.WriterSteps.{events_prefix, step_more, step_stopped}
 
--- whatever ticks follow, what was given out so far stands behind the header, and more behind it
+-- whatever ticks follow, what was given out so far stands after the header, and more after it
 text_begins : (more ticks : List Tick) (given : List ℕ) (w : WriterState) → WriterStands ticks given w →
     (tail : List ℕ) × (capture_text w.node (cut (ticks ++ more)) ≡ (header w.node ++ given) ++ tail)
 text_begins [] ticks given w h =
@@ -32,7 +32,7 @@ text_begins (t ∷ more) ticks given w h =
     )
 
 module _ {K : Type 0} (written_to : K → Option (List ℕ)) (faults : K → ℕ) (finished : K → Bool) where
-  -- The ticks below t were handed in, and what was given out for them is written behind the header.
+  -- The ticks below t were handed in, and what was given out for them is written after the header.
   pub record CaptureProgress (s : Script) (node t : ℕ) (before : Writer K) (capture : WriterState) (after : Writer K) : Type 0 where
     pub given : List ℕ
     pub writes : WriterStands (ticks_heard s node t) given capture

@@ -14,7 +14,7 @@ use Rattle.t1s_cli.specs.declared.status.Status.TheVariants.{Done, Refused, Read
 use Rattle.t1s_cli.specs.TextOutcome.{TextOutcome}
 use Rattle.t1s_report.specs.DecodedText.{IsLineAt, Shown, Silent, IsCaptureText, IsOffenceText}
 use Rattle.t1s_report.specs.ItemLines.{item_line, end_line}
-use Rattle.t1s_report.specs.RefusalLines.{offence_line}
+use Rattle.t1s_report.specs.OffenceLines.{offence_line}
 use Rattle.t1s_report.proofs.SinkGrowth.{grows_none, grows_more, prefix_more, prefix_wider}
 use Rattle.t1s_report.proofs.DecodedTexts.{item_text_more, offence_text}
 use Rattle.t1s_report.proofs.DecodeSteps.{capture_text, truncated_text, rest_text}

@@ -87,16 +87,16 @@ none_found low i (n ∷ ns) h l =
     let other : n.node ≡ i → ⊥ = λ e. omega (arith, h.0) in
     rw (ne_eqb n.node i other) (none_found (n.node + 1) i ns h.1 (omega (arith, h.0)))
 
--- the node that is found stands behind all those with a number below it
-pub found_behind : (low i : ℕ) (n : NodeTotals) (ns : List NodeTotals) → AscendFrom low (numbers ns) → find (λ (m : NodeTotals). eqb m.node i) ns ≡ Some n →
+-- the node that is found stands after all those with a number below it
+pub found_after : (low i : ℕ) (n : NodeTotals) (ns : List NodeTotals) → AscendFrom low (numbers ns) → find (λ (m : NodeTotals). eqb m.node i) ns ≡ Some n →
     slice_get ns (length (nodes_below i ns)) ≡ Some n
-found_behind low i n [] h e = absurd cc
-found_behind low i n (m ∷ ns) h e =
+found_after low i n [] h e = absurd cc
+found_after low i n (m ∷ ns) h e =
     elim (cases_lt m.node i) [
       | inl lt ↦
           let other : m.node ≡ i → ⊥ = λ same. omega arith in
           let rest : find (λ (k : NodeTotals). eqb k.node i) ns ≡ Some n = rw (ne_eqb m.node i other) at e in
-          rw (lt-ltb m.node i lt) (found_behind (m.node + 1) i n ns h.1 rest)
+          rw (lt-ltb m.node i lt) (found_after (m.node + 1) i n ns h.1 rest)
       | inr le ↦ elim (cases_eq m.node i) [
         | inl same ↦
             let here : ◌≡◌ {A = Option NodeTotals} (Some m) (Some n) = rw (eq-eqb m.node i same) at e in

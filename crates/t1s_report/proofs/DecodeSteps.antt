@@ -1,4 +1,4 @@
--- The octets behind those that a decoder stands for: one of them, and all of them.
+-- The octets after those that a decoder stands for: one of them, and all of them.
 use Rattle.std.proofs.Common.{◌≡◌, ℕ, ◌^◌, ◌<◌, ◌≤◌, List, [], ◌∷◌, ◌++◌, length, take, Result, Ok, Err, refl, sym, ap, subst, ◌∙◌, inl, inr, append_assoc}
 use Rattle.std.proofs.Math.Seq.{take-length}
 use Rattle.std.proofs.lemmas.Bool.{cases_lt}
@@ -17,7 +17,7 @@ use Rattle.t1s_capture.proofs.FirstOffences.{offends_at_end}
 use Rattle.t1s_capture.proofs.Steps.{begins, step_item, step_refused, step_stands, end_is, stands_new}
 use Rattle.t1s_capture.proofs.Beyond.{over_offence}
 use Rattle.t1s_report.specs.ItemLines.{item_line, end_line}
-use Rattle.t1s_report.specs.RefusalLines.{offence_line}
+use Rattle.t1s_report.specs.OffenceLines.{offence_line}
 use Rattle.t1s_report.specs.DecodedText.{IsLineAt, Shown, Silent, IsItemText, IsCaptureText, IsOffenceText, IsDecodedText}
 use Rattle.t1s_report.proofs.DecodedTexts.{item_text_more, offence_text}
 

@@ -15,18 +15,18 @@ use Rattle.t1s_capture.proofs.FirstOffences.{unbroken, one_reason}
 use Rattle.t1s_capture.proofs.Whole.{readings_agree}
 use Rattle.t1s_capture.proofs.ItemOctets.{one_item}
 use Rattle.t1s_report.specs.ItemLines.{item_line, end_line}
-use Rattle.t1s_report.specs.RefusalLines.{offence_line}
-use Rattle.t1s_report.specs.DecodedText.{IsLineAt, Shown, Silent, AreLinesBehind, IsItemText, IsOffenceText, IsDecodedText}
+use Rattle.t1s_report.specs.OffenceLines.{offence_line}
+use Rattle.t1s_report.specs.DecodedText.{IsLineAt, Shown, Silent, AreLinesAfter, IsItemText, IsOffenceText, IsDecodedText}
 
 -- lines and further lines
-pub lines_more : (before first others a b : List ℕ) → AreLinesBehind before first a → AreLinesBehind (before ++ first) others b → AreLinesBehind before (first ++ others) (a ++ b)
-lines_more before [] others a b h k = rw (h) (subst (λ (o : List ℕ). AreLinesBehind o others b) (append-nil before) k)
+pub lines_more : (before first others a b : List ℕ) → AreLinesAfter before first a → AreLinesAfter (before ++ first) others b → AreLinesAfter before (first ++ others) (a ++ b)
+lines_more before [] others a b h k = rw (h) (subst (λ (o : List ℕ). AreLinesAfter o others b) (append-nil before) k)
 lines_more before (octet ∷ first) others a b h k =
-    let (line, rest, at, behind, is) = h in
+    let (line, rest, at, after, is) = h in
     let e : a ++ b ≡ line ++ (rest ++ b) = rw is (append_assoc line rest b) in
-    (line, rest ++ b, at, lines_more (before ++ octet ∷ []) first others rest b behind (subst (λ (o : List ℕ). AreLinesBehind o others b) (sym (append_assoc before (octet ∷ []) first)) k), e)
+    (line, rest ++ b, at, lines_more (before ++ octet ∷ []) first others rest b after (subst (λ (o : List ℕ). AreLinesAfter o others b) (sym (append_assoc before (octet ∷ []) first)) k), e)
 
-pub line_one : (before : List ℕ) (octet : ℕ) (line : List ℕ) → IsLineAt before octet line → AreLinesBehind before (octet ∷ []) line
+pub line_one : (before : List ℕ) (octet : ℕ) (line : List ℕ) → IsLineAt before octet line → AreLinesAfter before (octet ∷ []) line
 line_one before octet line at = (line, [], at, refl, sym (append-nil line))
 
 -- one octet more
@@ -39,13 +39,13 @@ one_line before octet a b (Shown x h e) (Silent none f) = absurd (none x h)
 one_line before octet a b (Silent none e) (Shown y k f) = absurd (none y k)
 one_line before octet a b (Silent none e) (Silent none' f) = e ∙ sym f
 
-one_lines : (before rest a b : List ℕ) → AreLinesBehind before rest a → AreLinesBehind before rest b → a ≡ b
+one_lines : (before rest a b : List ℕ) → AreLinesAfter before rest a → AreLinesAfter before rest b → a ≡ b
 one_lines before [] a b h k = h ∙ sym k
 one_lines before (octet ∷ rest) a b h k =
-    let (l, ls, at, behind, is) = h in
-    let (m, ms, at', behind', is') = k in
+    let (l, ls, at, after, is) = h in
+    let (m, ms, at', after', is') = k in
     let x : l ≡ m = one_line before octet l m at at' in
-    let y : ls ≡ ms = one_lines (before ++ octet ∷ []) rest ls ms behind behind' in
+    let y : ls ≡ ms = one_lines (before ++ octet ∷ []) rest ls ms after after' in
     cc
 
 -- octets have one first offence at most

@@ -20,7 +20,7 @@ use Rattle.t1s_report.specs.SummaryLines.{settled_line, node_line}
 use Rattle.t1s_report.specs.WriterStep.{WriterStep}
 use Rattle.t1s_report.proofs.SinkGrowth.{grows_none, grows_more, prefix_more, prefix_wider}
 
--- what happened in further ticks stands behind what happened before
+-- what happened in further ticks stands after what happened before
 pub events_prefix : {E : Type 0} (events : ℕ → List E) (t d : ℕ) → (rest : List E) × (events_below events (t + d) ≡ events_below events t ++ rest)
 events_prefix {E} events t zero = ([], rw (add-zero, append-nil (events_below events t)) refl)
 events_prefix {E} events t (suc d) =

@@ -6,23 +6,23 @@ use Rattle.t1s_capture.specs.DecodedItems.{DecodedItem, IsItemOctet}
 use Rattle.t1s_capture.specs.Answers.{IsCountedCapture}
 use Rattle.t1s_capture.specs.Offences.{IsFirstOffence}
 use Rattle.t1s_report.specs.ItemLines.{item_line, end_line}
-use Rattle.t1s_report.specs.RefusalLines.{offence_line}
+use Rattle.t1s_report.specs.OffenceLines.{offence_line}
 
--- what an octet, behind those before it, adds to the item lines: the line of the item that is handed out at
+-- what an octet, after those before it, adds to the item lines: the line of the item that is handed out at
 -- it, or nothing where none is
 pub data IsLineAt (before : List ℕ) (octet : ℕ) (text : List ℕ) : Type 0 where
   Shown : (item : DecodedItem) → IsItemOctet before octet item → text ≡ item_line item → IsLineAt before octet text
   Silent : ((item : DecodedItem) → IsItemOctet before octet item → ⊥) → text ≡ [] → IsLineAt before octet text
 
 -- what further octets add to the item lines, one octet after another
-abbrev pub AreLinesBehind : List ℕ → List ℕ → List ℕ → Type 0
-AreLinesBehind before [] text = text ≡ []
-AreLinesBehind before (octet ∷ rest) text =
-    (first : List ℕ) × (others : List ℕ) × IsLineAt before octet first × AreLinesBehind (before ++ octet ∷ []) rest others × (text ≡ first ++ others)
+abbrev pub AreLinesAfter : List ℕ → List ℕ → List ℕ → Type 0
+AreLinesAfter before [] text = text ≡ []
+AreLinesAfter before (octet ∷ rest) text =
+    (first : List ℕ) × (others : List ℕ) × IsLineAt before octet first × AreLinesAfter (before ++ octet ∷ []) rest others × (text ≡ first ++ others)
 
 -- the lines of all items whose octet is one of these, in the order of those octets
 abbrev pub IsItemText : List ℕ → List ℕ → Type 0
-IsItemText octets text = AreLinesBehind [] octets text
+IsItemText octets text = AreLinesAfter [] octets text
 
 -- a capture of at most 2^30 octets: its item lines, and then the line of its end
 pub record IsCaptureText (octets text : List ℕ) : Type 0 where

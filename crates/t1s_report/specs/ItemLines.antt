@@ -37,7 +37,7 @@ piece_line start view = line (
     codes "piece" ∷ decimal start ∷ decimal view.lead ∷ decimal view.groups ∷
     closer_name view.closer ∷ kind_text view.kind view.frame ∷ [])
 
--- the line of an item: its first tick, and for all but a beacon and a piece the tick behind its last
+-- the line of an item: its first tick, and for all but a beacon and a piece the tick after its last
 abbrev pub item_line : DecodedItem → List ℕ
 item_line (PieceItem start view) = piece_line start view
 item_line (BeaconItem start) = line (codes "beacon" ∷ decimal start ∷ [])

@@ -3,6 +3,7 @@ pub mod EventLines
 pub mod SummaryLines
 pub mod FitnessLines
 pub mod RefusalLines
+pub mod OffenceLines
 pub mod ItemLines
 pub mod Report
 pub mod HeardText

@@ -131,7 +131,7 @@ fn torn_line(out: &mut Line, start: u64, end: u64, symbols: u64, blur: u64)
 }
 
 /// Replaces the content of the line by that of an item: its first tick from the capture's start, for all but a beacon
-/// and a piece the tick behind its last, and what it is. The frame of a good piece has at most 1522 octets.
+/// and a piece the tick after its last, and what it is. The frame of a good piece has at most 1522 octets.
 pub fn item_line(out: &mut Line, i: &Item<'_>)
     requires { IsShowable (decoded_item i.now) }
     ensures { out.new ≡ item_line (decoded_item i.now) }

@@ -2,7 +2,7 @@ use Rattle.std.proofs.Common.{◌≡◌, ◌≤◌, length, sym, ap, ◌∙◌, 
 use Rattle.std.proofs.lemmas.Option.{slice_get_past}
 use Rattle.t1s_segment.specs.declared.totals.NodeTotals.{NodeTotals}
 use Rattle.t1s_segment.specs.World.{totals_below}
-use Rattle.t1s_report.proofs.Ascending.{nodes_below, none_below, found_behind, count_found, count_missed, totals_ascend, totals_all_below}
+use Rattle.t1s_report.proofs.Ascending.{nodes_below, none_below, found_after, count_found, count_missed, totals_ascend, totals_all_below}
 use Rattle.t1s_report.proofs.summary_lines.totals_at.Goals as goal
 use Rattle.t1s_report.proofs.summary_lines.totals_at.Goals.{in-Some+else-nodes-k, in_default}
 
@@ -37,7 +37,7 @@ pub returns-then-nodes-k-clause-totals : goal.returns-then-nodes-k-clause-totals
 returns-then-nodes-k-clause-totals c s t stands =
     let so_far = c.loop-node.invariant.counted s t stands in
     let here : c.args.k ≡ length (nodes_below c.loop-node.node (totals_below s t)) = omega arith in
-    rw here (sym (found_behind 0 c.loop-node.node c.in-Some.totals (totals_below s t) (totals_ascend s t stands.valid) (sym (c.totals.ensures s t stands) ∙ c.in-Some.is)))
+    rw here (sym (found_after 0 c.loop-node.node c.in-Some.totals (totals_below s t) (totals_ascend s t stands.valid) (sym (c.totals.ensures s t stands) ∙ c.in-Some.is)))
 
 pub returns-clause-totals : goal.returns-clause-totals
 returns-clause-totals c s t stands =

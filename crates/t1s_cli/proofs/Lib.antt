@@ -1,11 +1,8 @@
-pub mod Puts
-mod Recorded
-pub mod Ascending
-pub mod Text
-pub mod Ends
-mod ThinScripts
+pub mod CaptureSteps
+pub mod TextEnds
+pub mod TaskAnswers
+pub mod ScriptCalls
 pub mod WholeInput
-pub mod DecodeText
-pub mod DecodeSteps
-pub mod DecodingLemmas
-pub mod WholeDecoding
+mod ThinScripts
+pub mod DecodeEnds
+pub mod CaptureCalls

@@ -8,7 +8,7 @@ use Rattle.t1s_script.proofs.ThinScripts.{thin_scripts}
 use Rattle.t1s_script.proofs.Validity.{read_valid}
 use Rattle.t1s_segment.specs.Beacons.{beacon_start, IsBeacon}
 use Rattle.t1s_segment.proofs.BeaconTicks.{drives_are_beacons}
-use Rattle.t1s_cli.specs.Beacons.{IsThinBeacon, HasBeacons}
+use Rattle.t1s_cli.specs.RunLaws.{IsThinBeacon, HasBeacons, RunLaws}
 
 -- what reading gives for octets of the thin form is the thin script
 thin_of : (octets : List ℕ) (s : Script) → has_thin_form octets ≡ true → script_of octets ≡ Ok s → IsThinScript s
@@ -17,7 +17,7 @@ thin_of octets s form is =
     let same : t ≡ s = cc in
     subst IsThinScript same thin
 
-pub has_beacons : (octets : List ℕ) (s : Script) → has_thin_form octets ≡ true → script_of octets ≡ Ok s → HasBeacons s
+has_beacons : (octets : List ℕ) (s : Script) → has_thin_form octets ≡ true → script_of octets ≡ Ok s → HasBeacons s
 has_beacons octets s form is z line one =
     let thin = thin_of octets s form is in
     let node : IsThinNode line = rw (get_or_from_slice_get s.nodes z line line one.here) at (thin.nodes z line (slice_get_within s.nodes z line one.here)) in
@@ -32,3 +32,7 @@ has_beacons octets s form is z line one =
       );
       symbols = λ k a f t b from to. beacons.symbols k a f t (here k a f b) from to;
     }
+
+-- the laws of the run of a script that is read
+pub run_laws : (octets : List ℕ) (s : Script) → script_of octets ≡ Ok s → RunLaws octets s
+run_laws octets s is = record { beacons = λ form. has_beacons octets s form is }

@@ -1,10 +1,8 @@
-pub mod Text
-pub mod Report
-pub mod HeardText
-pub mod Writing
 pub mod Words
 pub mod Answers
-pub mod Beacons
-pub mod DecodeText
-pub mod Decoded
-pub mod Decoding
+pub mod Faults
+pub mod TextOutcome
+pub mod ScriptCall
+pub mod DecodeProgress
+pub mod CaptureCall
+pub mod RunLaws

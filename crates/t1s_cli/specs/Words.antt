@@ -1,29 +1,23 @@
--- The words of the command line that the program takes.
+-- The words of the command line that the program takes: a row for each task.
 use Rattle.std.specs.Prelude.{◌≡◌, ◌⊎◌, ℕ, ◌≤◌, List, [], ◌∷◌, map, codes, decimal}
 use Rattle.std.specs.String.{string_bytes}
 use Rattle.std.specs.declared.string.String.{String}
 use Rattle.std.proofs.Common.{Global}
+use Rattle.t1s_cli.specs.declared.commands.ScriptTask.{ScriptTask}
+use Rattle.t1s_cli.specs.declared.commands.ScriptTask.TheVariants.{Run, Check, Capture}
+use Rattle.t1s_cli.specs.declared.commands.CaptureTask.{CaptureTask}
+use Rattle.t1s_cli.specs.declared.commands.CaptureTask.TheVariants.{Decode}
 
--- the one word `run`
-abbrev pub AreRun : List (String Global) → Type 0
-AreRun words = map string_bytes words ≡ codes "run" ∷ []
+-- the words ask for this task with a script; the number of a node is 0 to 15
+abbrev pub AreTask : List (String Global) → ScriptTask → Type 0
+AreTask words Run = map string_bytes words ≡ codes "run" ∷ []
+AreTask words Check = map string_bytes words ≡ codes "check" ∷ []
+AreTask words (Capture node) = (node ≤ 15) × (map string_bytes words ≡ codes "capture" ∷ decimal node ∷ [])
 
--- the one word `decode`
-abbrev pub AreDecode : List (String Global) → Type 0
-AreDecode words = map string_bytes words ≡ codes "decode" ∷ []
+-- the words ask for this task with a capture
+abbrev pub AreCaptureTask : List (String Global) → CaptureTask → Type 0
+AreCaptureTask words Decode = map string_bytes words ≡ codes "decode" ∷ []
 
--- the one word `check`
-abbrev pub AreCheck : List (String Global) → Type 0
-AreCheck words = map string_bytes words ≡ codes "check" ∷ []
-
--- the word `capture`, and the number of a node, 0 to 15
-abbrev pub AreCapture : List (String Global) → ℕ → Type 0
-AreCapture words node = (node ≤ 15) × (map string_bytes words ≡ codes "capture" ∷ decimal node ∷ [])
-
--- the words ask for something to be done with a script
-abbrev pub AreOnScript : List (String Global) → Type 0
-AreOnScript words = AreRun words ⊎ (AreCheck words ⊎ ((node : ℕ) × AreCapture words node))
-
--- the words are a row of the table of commands
+-- the words are a row of the table
 abbrev pub AreCommand : List (String Global) → Type 0
-AreCommand words = AreOnScript words ⊎ AreDecode words
+AreCommand words = ((task : ScriptTask) × AreTask words task) ⊎ ((task : CaptureTask) × AreCaptureTask words task)

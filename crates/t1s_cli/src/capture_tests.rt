@@ -84,7 +84,7 @@ fn a_node_hears_nothing_before_its_start(rt: HostRuntime) -> Result<(), Fail> {
 }
 
 #[test]
-fn a_missing_node_is_refused_behind_all_of_the_script(rt: HostRuntime) -> Result<(), Fail> {
+fn a_missing_node_is_refused_after_all_of_the_script(rt: HostRuntime) -> Result<(), Fail> {
     check_rows(
         &rt,
         rt.alloc(),

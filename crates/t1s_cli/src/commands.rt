@@ -1,6 +1,8 @@
 // What the words of the command line ask for.
 ghost use Rattle.std.specs.Prelude.{◌≡◌, ◌↔◌, ◌≤◌, ℕ, Some, decimal};
-ghost use Rattle.t1s_cli.specs.Words.{AreRun, AreCheck, AreCapture, AreDecode};
+ghost use Rattle.t1s_cli.specs.declared.commands.ScriptTask.{ScriptTask};
+ghost use Rattle.t1s_cli.specs.declared.commands.CaptureTask.{CaptureTask};
+ghost use Rattle.t1s_cli.specs.Words.{AreTask, AreCaptureTask};
 
 use t1s_base::read_number;
 
@@ -15,13 +17,20 @@ pub(crate) enum ScriptTask {
     Capture(u8),
 }
 
+/// What is done with a capture while it is read.
+#[derive(Clone, Copy, PartialEq, Eq, Debug)]
+pub(crate) enum CaptureTask {
+    /// `decode`: writes its items.
+    Decode,
+}
+
 /// A row of the table of commands.
 #[derive(Clone, Copy, PartialEq, Eq, Debug)]
 pub(crate) enum Command {
     /// Reads a script, and does the task.
     OnScript(ScriptTask),
-    /// `decode`: reads a capture and writes its items.
-    Decode,
+    /// Reads a capture, and does the task.
+    OnCapture(CaptureTask),
 }
 
 /// The highest number that a node can have.
@@ -39,10 +48,8 @@ fn node_number(word: &[u8]) -> Option<u8>
 
 /// The row that the words are, if they are one.
 pub(crate) fn command_of(words: &[String]) -> Option<Command>
-    ensures run { (result ≡ Some (Command.OnScript ScriptTask.Run)) ↔ AreRun words.now }
-    ensures check { (result ≡ Some (Command.OnScript ScriptTask.Check)) ↔ AreCheck words.now }
-    ensures capture { (node : ℕ) → (result ≡ Some (Command.OnScript (ScriptTask.Capture node))) ↔ AreCapture words.now node }
-    ensures decode { (result ≡ Some Command.Decode) ↔ AreDecode words.now }
+    ensures script { (task : ScriptTask) → (result ≡ Some (Command.OnScript task)) ↔ AreTask words.now task }
+    ensures capture { (task : CaptureTask) → (result ≡ Some (Command.OnCapture task)) ↔ AreCaptureTask words.now task }
 {
     match words {
         [word] if word.as_bytes() == b"run".as_slice() => {
@@ -51,7 +58,9 @@ pub(crate) fn command_of(words: &[String]) -> Option<Command>
         [word] if word.as_bytes() == b"check".as_slice() => {
             Some(Command::OnScript(ScriptTask::Check))
         }
-        [word] if word.as_bytes() == b"decode".as_slice() => Some(Command::Decode),
+        [word] if word.as_bytes() == b"decode".as_slice() => {
+            Some(Command::OnCapture(CaptureTask::Decode))
+        }
         [word, number] if word.as_bytes() == b"capture".as_slice() => {
             let node = node_number(number.as_bytes())?;
             Some(Command::OnScript(ScriptTask::Capture(node)))

@@ -128,7 +128,7 @@ fn bare_commits_and_torn_bursts_are_decoded(rt: HostRuntime) -> Result<(), Fail>
     Ok(())
 }
 
-/// The parts, one behind another.
+/// The parts, one after another.
 fn joined(alloc: Global, parts: &[&[u8]]) -> Result<Vec<u8>, AllocError> {
     let mut all = Vec::new(alloc);
     for part in parts {
@@ -199,7 +199,7 @@ fn first_offences_in_a_burst_are_refused(rt: HostRuntime) -> Result<(), Fail> {
 }
 
 #[test]
-fn first_offences_behind_the_header_are_refused(rt: HostRuntime) -> Result<(), Fail> {
+fn first_offences_after_the_header_are_refused(rt: HostRuntime) -> Result<(), Fail> {
     let table: [(&[u8], &[u8]); 7] = [
         (
             b"T1SC\x01\x02\x20\x00\x00\x00\x01\x20",

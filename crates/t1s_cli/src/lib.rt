@@ -1,31 +1,29 @@
 //! All that the program does, as one call over a source and a sink.
 //!
-//! The program uses that `workbench` writes the report of the run of the script that it reads, the capture of what a
-//! node hears in it, or the line of `check`, and that each of its answers has the cause that its clauses name. The
-//! report stands in `specs/Report.antt`, the lines in `specs/Text.antt`, the capture of what a node hears in
-//! `specs/HeardText.antt`, the words of a command in `specs/Words.antt`, what is written and answered after the reading
-//! in `specs/Answers.antt`, and what a writer does with a text in `specs/Writing.antt`. The text of a decoded capture
-//! stands in `specs/Decoded.antt`, its lines in `specs/DecodeText.antt`, and what decoding has done with what it has read
-//! in `specs/Decoding.antt`.
+//! The program uses that `workbench` writes what the task that its words ask for gives for the input that it reads, and
+//! that each of its answers has the cause that its clauses name. A command is a row of words in `specs/Words.antt`, a task
+//! with what it gives for an input in `specs/Answers.antt`, and a file that does it, as `run_command.rt`. The texts
+//! themselves stand in the crate `t1s_report`.
+//!
+//! How the writing of a text ends stands in `specs/TextOutcome.antt`, how far a decoding has come in
+//! `specs/DecodeProgress.antt`, and what a whole call has done with a script or a capture in `specs/ScriptCall.antt` and
+//! `specs/CaptureCall.antt`. The laws of the run of a script stand in `specs/RunLaws.antt`.
 #![tactic(auto)]
 
+mod capture_command;
+mod check_command;
 mod commands;
-mod decode_lines;
-mod decoding;
-mod ending;
-pub mod laws;
-mod lines;
-mod playing;
-mod reading;
-mod recording;
+mod decode_command;
+mod program;
+mod run_command;
+mod script_commands;
+mod script_input;
 mod status;
-mod summary;
-mod top;
-mod writer;
+mod text_end;
 
-pub use playing::play;
+pub use program::workbench;
+pub use run_command::play;
 pub use status::Status;
-pub use top::workbench;
 
 #[cfg(test)]
 mod capture_tests;

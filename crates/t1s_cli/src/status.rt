@@ -15,7 +15,7 @@ pub enum Status {
     ReadFault,
     /// The sink failed.
     WriteFault,
-    /// Want of memory.
+    /// It was out of memory.
     Memory,
 }
 

@@ -1,5 +1,0 @@
-use Rattle.t1s_cli.proofs.DecodeSteps.{has_text}
-use Rattle.t1s_cli.proofs.laws.has_decoded_text.Goals as goal
-
-pub returns : goal.returns
-returns c octets = has_text octets

@@ -1,0 +1,17 @@
+use Rattle.std.proofs.Common.{◌≡◌, ◌+◌, ◌⊎◌, true, rules}
+use Rattle.t1s_report.proofs.WriterSteps.{step_no_tick, step_tick, step_report}
+use Rattle.t1s_cli.proofs.run_command.write_report.Goals as goal
+
+pub loop-seg-init : goal.loop-seg-init
+loop-seg-init g c s stands = (0, stands, step_no_tick g.K.Sink.written g.K.Sink.faults g.K.Sink.finished s c.args.writer.now)
+
+pub loop-seg-preserved : goal.loop-seg-preserved
+loop-seg-preserved g c s first =
+    let (t, stands, so_far) = c.loop-seg.invariant s first in
+    (t + 1, c.tick.ensures.stands s t stands, step_tick g.K.Sink.written g.K.Sink.faults g.K.Sink.finished s t c.args.writer.now c.loop-seg.writer c.tick.new.watch so_far (c.tick.ensures.events s t stands))
+
+pub returns-clause-text : goal.returns-clause-text
+returns-clause-text g c s first =
+    let (t, stands, so_far) = c.loop-seg.invariant s first in
+    let why : (c.loop-seg.writer.stopped ≡ true) ⊎ (t ≡ s.end) = c.goes_on.ensures.no_more s t stands (search rules) in
+    step_report g.K.Sink.written g.K.Sink.faults g.K.Sink.finished s t c.args.writer.now c.loop-seg.writer c.write_summary.new.writer stands.in_time why so_far (c.write_summary.ensures s t stands)

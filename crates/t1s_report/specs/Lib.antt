@@ -1,0 +1,11 @@
+pub mod Lines
+pub mod EventLines
+pub mod SummaryLines
+pub mod FitnessLines
+pub mod RefusalLines
+pub mod OffenceLines
+pub mod ItemLines
+pub mod Report
+pub mod HeardText
+pub mod DecodedText
+pub mod WriterStep

@@ -1,0 +1,7 @@
+-- What a line is made of.
+use Rattle.std.specs.Prelude.{ℕ, List, [], ◌∷◌, ◌++◌}
+use Rattle.std.specs.List.{join_with_byte}
+
+-- a line: its fields with a space between each two, and LF
+abbrev pub line : List (List ℕ) → List ℕ
+line fields = join_with_byte 32 fields ++ 10 ∷ []

@@ -1,0 +1,13 @@
+//! Laws over the texts that are written.
+
+ghost use Rattle.t1s_report.specs.DecodedText.{HasDecodedText, OneDecodedText};
+
+/// All octets have a decoded text.
+pub fn has_decoded_text()
+    ensures { HasDecodedText }
+{}
+
+/// No octets have two decoded texts.
+pub fn one_decoded_text()
+    ensures { OneDecodedText }
+{}

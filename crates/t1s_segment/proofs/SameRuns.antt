@@ -6,7 +6,7 @@ use Rattle.t1s_pcs_tx.specs.declared.TxCmd.{TxCmd}
 use Rattle.t1s_pcs_tx.specs.declared.TxCmd.TheVariants.{None as NoCmd, Beacon, Commit}
 use Rattle.t1s_pcs_tx.specs.declared.TxIn.{TxIn}
 use Rattle.t1s_pcs_tx.specs.State.{Stage, TxState, tx_start}
-use Rattle.t1s_pcs_tx.specs.Transmit.{TxTurn, transmit_step, told_choice, chosen_turn, report_of as report_of_table}
+use Rattle.t1s_pcs_tx.specs.TransmitTable.{TxTurn, transmit_step, told_choice, chosen_turn, report_of as report_of_table}
 use Rattle.t1s_pcs_tx.specs.Runs.{Tick, turn, after, driven}
 use Rattle.t1s_segment.specs.Transmitter.{transmitter_step, chosen, quarter_of, report_of}
 use Rattle.t1s_segment.specs.TransmitterPart.{transmitter_after, quarters_in, SendsNoFrame, TransmitterIsPart}

@@ -3,7 +3,7 @@ use Rattle.std.specs.Prelude.{◌≡◌, List, [], ◌∷◌, Option, All}
 use Rattle.t1s_symbols.specs.declared.Quarter.{Quarter}
 use Rattle.t1s_pcs_tx.specs.declared.TxCmd.TheVariants.{Commit}
 use Rattle.t1s_pcs_tx.specs.State.{tx_start}
-use Rattle.t1s_pcs_tx.specs.Transmit.{report_of as report_of_table}
+use Rattle.t1s_pcs_tx.specs.TransmitTable.{report_of as report_of_table}
 use Rattle.t1s_pcs_tx.specs.Runs.{Tick, after, driven}
 use Rattle.t1s_segment.specs.Transmitter.{transmitter_step, quarter_of, report_of}
 use Rattle.t1s_segment.specs.declared.transmitter.Transmitter.{Transmitter}

@@ -4,5 +4,6 @@ pub mod WorldLemmas
 pub mod EventLemmas
 pub mod Opportunities
 pub mod Arrived
+pub mod Seen
 pub mod ChainWaves
 pub mod Overlaps

@@ -1,0 +1,147 @@
+-- One tick of control of a node that takes part in the cycle and does not drive.
+use Rattle.std.proofs.Common.{◌≡◌, ℕ, ◌+◌, ◌-◌, ◌==◌, ◌<◌, ◌≤◌, ◌⊎◌, inl, inr, Bool, true, false, ◌&&◌, nat_lt, nat_le, List, ◌∷◌, refl, sym, ◌∙◌, ap, subst, arith}
+use Rattle.std.proofs.lemmas.Bool.{cases_lt, cases_eq, cond_both, false≢true}
+use Rattle.std.proofs.lemmas.Bool.Decides.{nat_tests}
+use Rattle.t1s_pcs_tx.specs.declared.TxCmd.{TxCmd}
+use Rattle.t1s_pcs_tx.specs.declared.TxCmd.TheVariants.{None as NoCmd, Beacon as BeaconCmd, Commit as CommitCmd}
+use Rattle.plca_control.specs.declared.ControlSet.{ControlSet}
+use Rattle.plca_control.specs.declared.ControlIn.{ControlIn}
+use Rattle.plca_control.specs.declared.State.{State}
+use Rattle.plca_control.specs.declared.State.TheVariants.{Beacon, Syncing, WaitTo, Receive, Commit, Drain, Resync}
+use Rattle.plca_control.specs.ControlTable.{reach, control_row, is_beacon}
+use Rattle.t1s_world.specs.Waves.{CycleSettings, IsCycleSettings, Wave, opportunity_start, reads_beacon, next_heard}
+use Rattle.t1s_turns.specs.ControlOverWaves.{WaitingControl, listens, fades, syncs, counts}
+use Rattle.t1s_turns.proofs.ShownCarrier.{CarrierShown, lasts_on, gone, caught}
+use Rattle.t1s_world.proofs.Opportunities.{opportunity_first, opportunity_next, opportunity_far, opportunity_low}
+
+-- what becomes of the opportunity of ID x
+pub data OpportunityOutcome (n : CycleSettings) (burst : ℕ) (ready : Bool) (x : ℕ) : State × TxCmd → Type 0 where
+  beacons : n.owns 0 ≡ true → n.count ≤ x → OpportunityOutcome n burst ready x (Beacon 20, BeaconCmd)
+  commits : n.owns x ≡ true → ready ≡ true → OpportunityOutcome n burst ready x (Commit 288 burst, CommitCmd)
+  sleeps : n.owns 0 ≡ false → x ≡ 255 → OpportunityOutcome n burst ready x (Resync, NoCmd)
+  waits : x ≤ 254 → (n.owns 0 ≡ true → x < n.count) → (n.owns x ≡ true → ready ≡ false) → OpportunityOutcome n burst ready x (WaitTo x n.to, NoCmd)
+
+module _ (s : ControlSet) (n : CycleSettings) (is : IsCycleSettings n) (same_owns : (x : ℕ) → n.owns x ≡ (x == s.id)) (same_count : s.count ≡ n.count) (same_to : s.to ≡ n.to) where
+  abbrev Outcome : Bool → ℕ → State × TxCmd → Type 0
+  Outcome ready x next = OpportunityOutcome n s.burst ready x next
+
+  pub coord : (s.id == 0) ≡ n.owns 0
+  coord = elim (cases_eq s.id 0) [
+    | inl e ↦
+        let b : (0 == s.id) ≡ true = grind (arith, nat_tests, e) in
+        let d : (s.id == 0) ≡ true = grind (arith, nat_tests, e) in
+        d ∙ sym (same_owns 0 ∙ b)
+    | inr some ↦
+        let b : (0 == s.id) ≡ false = grind (arith, nat_tests, some) in
+        let d : (s.id == 0) ≡ false = grind (arith, nat_tests, some) in
+        d ∙ sym (same_owns 0 ∙ b)
+  ]
+
+  follows : nat_lt 0 s.id ≡ true → n.owns 0 ≡ false
+  follows e = sym coord ∙ grind (arith, nat_tests, e)
+
+  low : (ready : Bool) (x : ℕ) → x ≤ 255 → s.count ≤ 254 → ((s.id == 0) && nat_le s.count x) ≡ false → (nat_lt 0 s.id && nat_le 255 x) ≡ false → x ≤ 254
+  low ready x few counted before awake = elim (cases_lt x 255) [
+    | inl lt ↦ omega (arith, lt)
+    | inr ge ↦ absurd (grind (arith, nat_tests, before, awake, ge, counted))
+  ]
+
+  pub reached : (ready : Bool) (x : ℕ) → x ≤ 255 → Outcome ready x (reach s ready x)
+  reached ready x few =
+      let zero = coord in
+      let owned = same_owns x in
+      let counted : s.count ≤ 254 = omega (arith, same_count, is.count_high) in
+      cond_both ((s.id == 0) && nat_le s.count x) _ _ (Outcome ready x)
+      (λ e. beacons (grind (arith, nat_tests, e, zero)) (grind (arith, nat_tests, e, same_count)))
+      (λ no. cond_both ((x == s.id) && ready) _ _ (Outcome ready x)
+      (λ e. commits (grind (arith, nat_tests, e, owned)) (grind (arith, nat_tests, e)))
+      (λ none. cond_both (nat_lt 0 s.id && nat_le 255 x) _ _ (Outcome ready x)
+      (λ e. sleeps (grind (arith, nat_tests, e, zero)) (grind (arith, nat_tests, e, few)))
+      (λ awake. subst (λ (m : ℕ). Outcome ready x (WaitTo x m, NoCmd)) (sym same_to)
+      (waits (low ready x few counted no awake) (λ mine. grind (arith, nat_tests, no, zero, mine, same_count)) (λ mine. grind (arith, nat_tests, none, mine, owned))))))
+
+  -- What a tick comes to, where `came` are the waves that have come and `crs` is the carrier that control is shown. The node
+  -- drives nothing, and waits on behind the wave a or behind a newer one; or it passes all IDs; or it starts to drive as the
+  -- opportunity of x begins behind a.
+  pub data NextControl (t : ℕ) (came : List Wave) (a : Wave) (ready : Bool) : Bool → State × TxCmd → Type 0 where
+    goes_on : {crs : Bool} {st : State} → (crs ≡ false) ⊎ (t < a.till + n.fall) → WaitingControl n (t + 1) a st → NextControl t came a ready crs (st, NoCmd)
+    newer : {st : State} (w : Wave) (rest : List Wave) → came ≡ w ∷ a ∷ rest → t ≡ w.from + n.rise → WaitingControl n (t + 1) w st → NextControl t came a ready true (st, NoCmd)
+    sleeps_in : n.owns 0 ≡ false → t ≡ opportunity_start n a 255 → NextControl t came a ready false (Resync, NoCmd)
+    starts_beacon : (x : ℕ) → n.owns 0 ≡ true → n.count ≤ x → t ≡ opportunity_start n a x → a.next ≤ x → NextControl t came a ready false (Beacon 20, BeaconCmd)
+    starts_commit : (x : ℕ) → n.owns x ≡ true → t ≡ opportunity_start n a x → a.next ≤ x → ready ≡ true → NextControl t came a ready false (Commit 288 s.burst, CommitCmd)
+
+  pub from_reach : (t : ℕ) (came : List Wave) (a : Wave) (ready : Bool) (x : ℕ) (next : State × TxCmd) → t ≡ opportunity_start n a x → a.next ≤ x → a.till + n.fall ≤ t
+      → Outcome ready x next → NextControl t came a ready false next
+  from_reach t came a ready x _ at first past (beacons zero all) = starts_beacon x zero all at first
+  from_reach t came a ready x _ at first past (commits mine some) = starts_commit x mine at first some
+  from_reach t came a ready x _ at first past (sleeps follower last) = sleeps_in follower (at ∙ ap (opportunity_start n a) last)
+  from_reach t came a ready x _ at first past (waits low more none) =
+      goes_on (inl refl) (counts {a = a} x n.to (omega (arith, past)) (omega (arith, at)) (omega (arith, is.to_high, is.rise_low)) (omega arith) first low)
+
+  -- the count at which a newer wave is caught is its place
+  count_is : (t c m : ℕ) (a w : Wave) → t + m ≡ opportunity_start n a c + n.to + 1 → 1 ≤ m → m ≤ n.to → a.next ≤ c
+      → opportunity_start n a w.place + 1 ≤ t → t ≤ opportunity_start n a w.place + n.to → a.next ≤ w.place → c ≡ w.place
+  count_is t c m a w at some few first low high order = elim (cases_eq c w.place) [
+    | inl e ↦ e
+    | inr other ↦ elim (cases_lt c w.place) [
+      | inl lt ↦ let room = opportunity_far n a c w.place first lt in absurd (omega (arith, room, at, some, few, low, high))
+      | inr ge ↦ let room = opportunity_far n a w.place c order (omega (arith, ge, other)) in absurd (omega (arith, room, at, some, few, low, high))
+    ]
+  ]
+
+  module _ (t : ℕ) (came : List Wave) (a : Wave) (i : ControlIn)
+      (read : a.own ≡ false → t ≡ a.till + n.fall → is_beacon i.class ≡ reads_beacon a)
+      (not_own : n.owns 0 ≡ true → a.own ≡ false → reads_beacon a ≡ false) (next_is : a.till < t → a.next ≡ next_heard a) where
+    at_first : (x : ℕ) → a.next ≡ x → t ≡ a.till + n.fall → t ≡ opportunity_start n a x
+    at_first x first at = at ∙ sym (opportunity_first n a) ∙ ap (opportunity_start n a) first
+
+    -- at the end of the wave
+    ends : (x : ℕ) → a.next ≡ x → t ≡ a.till + n.fall → a.next ≤ 255 → NextControl t came a i.ready false (reach s i.ready x)
+    ends x first at low =
+        let begins : t ≡ opportunity_start n a x = at_first x first at in
+        from_reach t came a i.ready x (reach s i.ready x) begins (omega (arith, first)) (omega (arith, at)) (reached i.ready x (omega (arith, first, low)))
+
+    -- the row of a wave that has gone, by whether it was a beacon
+    gone_row : (b : Bool) → reads_beacon a ≡ b → is_beacon i.class ≡ b → i.crs ≡ false → a.own ≡ false → t ≡ a.till + n.fall → a.next ≤ 255 → NextControl t came a i.ready false (control_row s (Receive a.place) i)
+    gone_row true flag class off other at low =
+        let more : nat_lt 0 s.id ≡ true = (elim (cases_eq s.id 0) [
+          | inl zero ↦ absurd (false≢true (sym (not_own (sym coord ∙ grind (arith, nat_tests, zero)) other) ∙ flag))
+          | inr some ↦ grind (arith, nat_tests, some)
+        ]) in
+        let row : control_row s (Receive a.place) i ≡ reach s i.ready 0 = rw (off, class, more) refl in
+        rw row (ends 0 (next_is (omega (arith, at, is.fall_low)) ∙ rw flag refl) at low)
+    gone_row false flag class off other at low = rw (off, class) (ends (a.place + 1) (next_is (omega (arith, at, is.fall_low)) ∙ rw flag refl) at low)
+
+    pub listening : (b : Bool) → CarrierShown n t came a b → i.crs ≡ b → a.own ≡ false → t ≤ a.till + n.fall → a.next ≤ 255 → NextControl t came a i.ready b (control_row s (Receive a.place) i)
+    listening _ (lasts_on before) e other within low = rw e (goes_on (inr before) (listens {a = a} other (omega (arith, before))))
+    listening _ (gone after) e other within low = gone_row (reads_beacon a) refl (read other (omega (arith, within, after))) e other (omega (arith, within, after)) low
+    listening _ (caught w rest is_newest theirs at over low high order) e other within _ = absurd (omega (arith, low, within, opportunity_low n a w.place))
+
+    pub counting : (b : Bool) (c m : ℕ) → CarrierShown n t came a b → i.crs ≡ b → a.till + n.fall < t → t + m ≡ opportunity_start n a c + n.to + 1 → 1 ≤ m → m ≤ n.to → a.next ≤ c
+        → c ≤ 254 → NextControl t came a i.ready b (control_row s (WaitTo c m) i)
+    counting _ c m (lasts_on before) e past at some most first low = absurd (omega (arith, before, past))
+    counting _ c m (caught w rest is_newest theirs now over least high order) e past at some most first low =
+        let same : c ≡ w.place = count_is t c m a w at some most first least high order in
+        rw (e, same) (newer w rest is_newest now (listens {a = w} theirs (omega (arith, over))))
+    counting _ c m (gone after) e past at some most first low = elim (cases_eq m 1) [
+      | inl one ↦
+          let b : (m == 1) ≡ true = grind (arith, nat_tests, one) in
+          let begins : t ≡ opportunity_start n a (c + 1) = omega (arith, at, one, opportunity_next n a c first) in
+          rw (e, b) (from_reach t came a i.ready (c + 1) (reach s i.ready (c + 1)) begins (omega (arith, first)) (omega (arith, past)) (reached i.ready (c + 1) (omega (arith, low))))
+      | inr not_one ↦
+          let b : (m == 1) ≡ false = grind (arith, nat_tests, not_one) in
+          rw (e, b) (goes_on (inl refl) (counts {a = a} c (m - 1) (omega (arith, past)) (omega (arith, at, some, not_one)) (omega (arith, some, not_one)) (omega (arith, most)) first low))
+    ]
+
+    pub syncing : (b : Bool) → CarrierShown n t came a b → i.crs ≡ b → a.own ≡ true → reads_beacon a ≡ true → a.till < t → t ≤ a.till + n.fall → NextControl t came a i.ready b (control_row s Syncing i)
+    syncing _ (lasts_on before) e own whole after within = rw e (goes_on (inr before) (syncs {a = a} own whole (omega (arith, after)) (omega (arith, before))))
+    syncing _ (gone now) e own whole after within = let first : a.next ≡ 0 = next_is after ∙ rw whole refl in rw e (ends 0 first (omega (arith, now, within)) (omega (arith, first)))
+    syncing _ (caught w rest is_newest theirs at over low high order) e own whole after within = absurd (omega (arith, low, within, opportunity_low n a w.place))
+
+    pub draining : (b : Bool) → CarrierShown n t came a b → i.crs ≡ b → a.own ≡ true → a.beacon ≡ false → n.owns a.place ≡ true → a.till < t → t ≤ a.till + n.fall → NextControl t came a i.ready b (control_row s Drain i)
+    draining _ (lasts_on before) e own flag mine after within = rw e (goes_on (inr before) (fades {a = a} own flag mine (omega (arith, after)) (omega (arith, before))))
+    draining _ (gone now) e own flag mine after within =
+        let is_mine : a.place ≡ s.id = (let b = sym (same_owns a.place) ∙ mine in grind (arith, nat_tests, b)) in
+        let first : a.next ≡ s.id + 1 = next_is after ∙ rw (flag, is_mine) refl in
+        rw e (ends (s.id + 1) first (omega (arith, now, within)) (omega (arith, first, is_mine, is.low_ids a.place mine, is.count_high)))
+    draining _ (caught w rest is_newest theirs at over low high order) e own flag mine after within = absurd (omega (arith, low, within, opportunity_low n a w.place))

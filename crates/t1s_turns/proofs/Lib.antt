@@ -1,0 +1,14 @@
+pub mod CarrierSteps
+pub mod ReceiverSteps
+pub mod ShownCarrier
+pub mod ControlSteps
+pub mod WaitingSteps
+pub mod TransmitterTurns
+pub mod DriveTurns
+pub mod ControlKept
+pub mod RunTurns
+pub mod SeenWaves
+pub mod ControlTurns
+pub mod NodeKept
+pub mod Turns
+pub mod Draws

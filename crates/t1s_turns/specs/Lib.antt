@@ -1,0 +1,6 @@
+pub mod CarrierOverWaves
+pub mod ReceiverOverWaves
+pub mod ControlOverWaves
+pub mod DriveOverWaves
+pub mod NodeOverWaves
+pub mod Laws

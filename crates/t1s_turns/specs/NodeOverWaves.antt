@@ -1,0 +1,47 @@
+-- One node over the waves that pass it: what it hears of them, and what it keeps as a tick finds it.
+use Rattle.std.specs.Prelude.{◌≡◌, ℕ, ◌+◌, ◌<◌, true, false, List, ◌==◌, is_some}
+use Rattle.t1s_ring.specs.Queue.{empty_queue}
+use Rattle.t1s_pcs_tx.specs.State.{Stage}
+use Rattle.plca_control.specs.declared.State.{State}
+use Rattle.plca_control.specs.ControlTable.{is_own}
+use Rattle.t1s_mac.specs.PickedDraws.{picked_answer, picked_after}
+use Rattle.t1s_mac.specs.declared.picked_draws.PickedDraws.{PickedDraws}
+use Rattle.t1s_node.specs.declared.settings.NodeSet.{NodeSet}
+use Rattle.t1s_node.specs.Node.{NodeState, node_start}
+use Rattle.t1s_node.specs.NodeRuns.{NodeTick, node_at, node_drive_at, core_ticks}
+use Rattle.t1s_node.specs.Runs.{IsUndisturbed, active_at}
+use Rattle.t1s_world.specs.Waves.{CycleSettings, Wave, arrived}
+use Rattle.t1s_turns.specs.CarrierOverWaves.{CarrierOverWaves}
+use Rattle.t1s_turns.specs.ReceiverOverWaves.{ReceiverOverWaves, HeardOverWaves}
+use Rattle.t1s_turns.specs.ControlOverWaves.{ControlOverWaves}
+use Rattle.t1s_turns.specs.DriveOverWaves.{DriveOverWaves}
+
+-- what a node is set to for the cycle: it has one ID
+abbrev pub cycle_of : NodeSet → CycleSettings
+cycle_of s = record { owns = λ x. x == s.control.id; count = s.control.count; to = s.control.to; rise = s.rise; fall = s.fall }
+
+-- in its own opportunity control is in Commit, Transmit or Burst
+abbrev pub HasOpportunity : ℕ → State → Stage → ℕ → Type 0
+HasOpportunity e state stage part = is_own state ≡ true
+
+module _ (set : NodeSet) (room : ℕ) (draws : PickedDraws) (given : ℕ → NodeTick) (begin : ℕ) where
+  -- the node that starts in tick `begin` of the world, which is its own tick 0
+  abbrev pub started : NodeState
+  started = node_start set (empty_queue room) draws
+
+  -- In each tick below `now` it hears what the newest wave spells, if that is another's, and drives exactly in its own.
+  abbrev pub HearsWaves : ℕ → List Wave → Type 0
+  HearsWaves now ws =
+      (u : ℕ) → begin + u < now → HeardOverWaves (begin + u) (arrived (begin + u + 1) ws) (given u).heard (is_some (node_drive_at started given u).quarter)
+
+  -- What it keeps as its own tick u finds it, and what the drive phase of this tick tells: carrier, receiver and control are as
+  -- the waves say, nothing has met its drive; it drives what the waves say, and its status is OK exactly where control takes
+  -- part in the cycle.
+  pub record NodeOverWaves (u : ℕ) (ws : List Wave) : Type 0 where
+    pub carrier : CarrierOverWaves (cycle_of set) begin (begin + u) (arrived (begin + u) ws) (node_at started given u).carrier
+    pub receiver : ReceiverOverWaves (cycle_of set) begin (begin + u) (arrived (begin + u) ws) (node_at started given u).receiver.class (node_at started given u).receiver.burst
+    pub no_hit : (node_at started given u).hit ≡ false
+    pub control : ControlOverWaves HasOpportunity (cycle_of set) begin (begin + u) ws (node_at started given u).core.control.state (node_at started given u).core.tx.stage (node_at started given u).core.tx.part
+    pub drives : DriveOverWaves (cycle_of set) begin (begin + u) ws (node_drive_at started given u).quarter
+    pub ok : (node_drive_at started given u).ok ≡ active_at picked_answer picked_after started.core (core_ticks started given) u
+    pub undisturbed : IsUndisturbed picked_answer picked_after started.core (core_ticks started given) u

@@ -96,7 +96,7 @@ until_built() {
 
 # A build that $1 ended, with the status $2.
 has_ended() {
-  so "a build that $1 ended leaves no file in the temporary folder" all "ended_with $2" 'is_empty "$room/tmp"'
+  so "a build that $1 ended leaves no file in the temporary folder" all "ended_with $2" 'is_empty "$room/tmp"' '! said Terminated'
   count=$(wc -l <"$room/calls")
 }
 

@@ -92,8 +92,8 @@ prove_and_build() {
     builder=
     cp "$scratch/log" "$crate/out/build.log"
     [ $ended -eq 0 ] || {
-        tail -n 30 "$scratch/log" >&2
-        fail "$not_built" "the program was not built: see above, and the whole of it in $crate/out/build.log"
+        errors_of "$scratch/log" >&2
+        fail "$not_built" "the program was not built: all that the toolchain said is in $crate/out/build.log"
     }
     begin_record
     [ "$(sum_of_sources)" = "$sources" ] ||
@@ -101,6 +101,11 @@ prove_and_build() {
     write_record "$sources" || fail "$not_built" "$crate/out can't be written"
     rm -f "$begun"
     say "the program is proved and built ($(elapsed))"
+}
+
+# What the toolchain found wrong, or the end of what it said.
+errors_of() {
+    grep -E '(^|: )error|: not proved$' "$1" | head -n 20 | grep . || tail -n 20 "$1"
 }
 
 # Has the toolchain prove and build the program alone, without tests and must-fail edits, and run it once on a small script.

@@ -22,7 +22,7 @@ stale_after() {
   so "the program is built anew after: $1" all 'ended_with 0' "built $((count + 1))"
 }
 
-(PATH=/usr/bin:/bin; call run $script; exit $ended)
+(PATH=/usr/bin:/bin; call run $script; exit "$ended")
 ended=$?
 so "no toolchain is 127" all 'ended_with 127' 'said "no toolchain (rt)"'
 : >"$room/fails"
@@ -60,13 +60,19 @@ so "a source with a new time and the same octets changes nothing" all 'ended_wit
 : >crates/t1s_base/must-fail/new.edit
 call run $script
 so "nor does a must-fail edit" all 'ended_with 0' "built $count" 'said_nothing'
-chmod -R a-w crates/t1s
-setpriv --reuid=65534 --regid=65534 --clear-groups true 2>/dev/null && {
-  chmod a+rwx "$room" && chmod -R a+rw "$room"/words "$room"/read "$room"/text "$room"/said && touch crates/t1s/src/main.rt
-  setpriv --reuid=65534 --regid=65534 --clear-groups ./t1s run $script >"$room/text" 2>"$room/said"
+# The same as call, by a user that can't write in the checkout: as root it is nobody who calls.
+as_nobody() {
+  chmod a+rwx "$room"
+  chmod a+rw "$room/words" "$room/read"
+  if [ "$(id -u)" -eq 0 ]; then set -- setpriv --reuid=65534 --regid=65534 --clear-groups ./t1s "$@"; else set -- ./t1s "$@"; fi
+  "$@" >"$room/text" 2>"$room/said"
   ended=$?
-  so "a built checkout without write access runs" all 'ended_with 0' "built $count" 'said_nothing'
 }
+
+chmod -R a-w crates/t1s
+touch crates/t1s/src/main.rt
+as_nobody run $script
+so "a built checkout without write access runs" all 'ended_with 0' "built $count" 'said_nothing'
 chmod -R u+w crates/t1s
 
 echo >>$source
@@ -79,20 +85,48 @@ so "two first calls at once make one build" all 'ended_with 0' "built $((count +
 cat "$room/said_1" >>"$room/said"
 so "the other call says that it waits" said 'another call is building the program'
 
+# Waits until the toolchain was called $1 times, for at most some 20 seconds.
+until_built() {
+  tries=0
+  while ! built "$1" && [ $tries -lt 200 ]; do
+    tries=$((tries + 1))
+    sleep 0.1
+  done
+}
+
+# A build that $1 ended, with the status $2.
+has_ended() {
+  so "a build that $1 ended leaves no file in the temporary folder" all "ended_with $2" 'is_empty "$room/tmp"' '! said Terminated'
+  count=$(wc -l <"$room/calls")
+}
+
 echo >>$source
 echo 30 >"$room/build_seconds"
 ./t1s run $script >"$room/text" 2>"$room/said" &
 first=$!
-tries=0
-while built $((count + 1)) && [ $tries -lt 200 ]; do
-  tries=$((tries + 1))
-  sleep 0.1
-done
+until_built $((count + 2))
 kill -TERM $first
 wait $first
 ended=$?
-so "a build that is ended leaves no file in the temporary folder" all 'ended_with 143' 'is_empty "$room/tmp"'
+has_ended "a signal" 143
+if command -v script >/dev/null; then
+  { until_built $((count + 1)); printf '\003'; until_there "$room/is_over"; } |
+    { script -qec "./t1s run $script" /dev/null; echo $? >"$room/ended"; : >"$room/is_over"; } >"$room/text" 2>"$room/said"
+  ended=$(cat "$room/ended")
+  has_ended "Ctrl-C" 130
+  echo 1 >"$room/build_seconds"
+  script -qec "./t1s run $script" /dev/null </dev/null >"$room/text" 2>"$room/said"
+  ended=$?
+  so "on a terminal what is proved is one line that is written over" all 'ended_with 0' "built $((count + 1))" \
+    'grep -q "$(printf "\r\033")\[Kt1s: " "$room/text"' '! grep -q "proved, 1 of" "$room/text"'
+  count=$((count + 1))
+  echo >>$source
+fi
 echo 0 >"$room/build_seconds"
 call run $script
-so "the program is built by the next call" all 'ended_with 0' "built $((count + 3))"
+so "the program is built by the next call" all 'ended_with 0' "built $((count + 1))" 'is_empty "$room/tmp"'
+rm -rf crates/t1s/out
+chmod a-w crates/t1s
+as_nobody run $script
+so "a checkout that is not built and can't be written is 126" all 'ended_with 126' 'said "can'"'"'t be written"'
 exit $status

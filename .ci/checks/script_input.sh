@@ -18,11 +18,6 @@ ran() {
   all 'ended_with 0' 'wrote "$report"' "got_words '$1'" "got_input $room/clone/$script" 'said_nothing'
 }
 
-# Waits for the file $1.
-until_there() {
-  while [ ! -f "$1" ]; do sleep 0.1; done
-}
-
 # Waits until the file $1 has the octets of $2, for at most 100 tries.
 until_same() {
   for try in 0 1 2 3 4 5 6 7 8 9; do

@@ -122,6 +122,11 @@ built() {
   [ "$(wc -l <"$room/calls")" -eq "$1" ]
 }
 
+# Waits for the file $1.
+until_there() {
+  while [ ! -f "$1" ]; do sleep 0.1; done
+}
+
 all() {
   for test in "$@"; do
     eval "$test" || return 1

@@ -15,6 +15,7 @@ open_input() {
     case $1 in
     '' | -)
         input_name='standard input'
+        [ -n "$1" ] || [ ! -t 0 ] || say "reading a $reads from the terminal, up to Ctrl-D; \`t1s $words FILE\` reads a file"
         [ ! -f /dev/stdin ] || ! is_at_start || input=/dev/stdin
         ;;
     *)

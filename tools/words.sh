@@ -53,7 +53,9 @@ refuse_words() {
 refuse_command() {
     near=$({ rows commands.txt | cut -d '|' -f 1; printf '%s\n' --help --version; } |
         WORD=$1 awk -f "$tools/near.awk")
-    refuse_words "\`$(shown "$1")\` is no command${near:+; the nearest is \`$near\`}"
+    hint=${near:+; the nearest is \`$near\`}
+    [ ! -f "$1" ] || hint='; a file is named after a command, as in `t1s run FILE`'
+    refuse_words "\`$(shown "$1")\` is no command$hint"
 }
 
 # Refuses the option $1, which the command $2 does not take.

@@ -148,6 +148,8 @@ if command -v script >/dev/null; then
   so "a capture is not written to a terminal" all 'ended_with 2' 'wrote ""' 'said "--force"' 'said "t1s capture 2 FILE >"'
   on_terminal capture 2 --force $script
   so "but for --force" all 'ended_with 0' 'wrote T1SC' 'said_nothing'
+  printf '\004' | script -qec "./t1s check 2>'$room/said'" /dev/null >"$room/text" 2>/dev/null
+  so "it says that it reads from the terminal" said 'reading a script from the terminal'
   on_terminal run $script
   so "a report is" all 'ended_with 0' 'wrote T1SC' 'said_nothing'
 fi

@@ -17,6 +17,7 @@ refused 'no command'
 refused 'an empty word is no command' ''
 refused '`rnu` is no command; the nearest is `run`' rnu
 refused '`captur` is no command; the nearest is `capture`' captur 2
+refused '`README.md` is no command; a file is named after a command, as in `t1s run FILE`' README.md
 refused '`frobnicate` is no command' frobnicate
 refused '`--versoin` is no command; the nearest is `--version`' --versoin
 refused '`--version` takes no further word' --version run

@@ -30,8 +30,8 @@ explain_script() {
     fi
     rows script_words.txt >"$scratch/words"
     near=$(first_field | { read -r WORD; export WORD; cut -d '|' -f 1 "$scratch/words" | awk -f "$tools/near.awk"; })
-    LC_ALL=C awk -v place="$place" -v reason="$reason" -v near="$near" -v command="$command" \
-        -f "$tools/explain_script.awk" "$scratch/words" - <"$input"
+    head -c "$most_of_script" <"$input" | LC_ALL=C awk -v place="$place" -v reason="$reason" -v near="$near" \
+        -v command="$command" -f "$tools/explain_script.awk" "$scratch/words" -
 }
 
 # The first field of the refused line.

@@ -75,15 +75,20 @@ as_nobody run $script
 so "a built checkout without write access runs" all 'ended_with 0' "built $count" 'said_nothing'
 chmod -R u+w crates/t1s
 
-echo >>$source
-echo 2 >"$room/build_seconds"
-./t1s run $script >"$room/text_1" 2>"$room/said_1" &
-first=$!
-call run $script
-wait $first
-so "two first calls at once make one build" all 'ended_with 0' "built $((count + 1))" 'cmp -s "$room/text" "$room/text_1"'
-cat "$room/said_1" >>"$room/said"
-so "the other call says that it waits" said 'another call is building the program'
+if command -v flock >/dev/null; then
+  echo >>$source
+  echo 2 >"$room/build_seconds"
+  ./t1s run $script >"$room/text_1" 2>"$room/said_1" &
+  first=$!
+  call run $script
+  wait $first
+  so "two first calls at once make one build" all 'ended_with 0' "built $((count + 1))" 'cmp -s "$room/text" "$room/text_1"'
+  cat "$room/said_1" >>"$room/said"
+  so "the other call says that it waits" said 'another call is building the program'
+else
+  echo "flock is not installed: two calls at once are not tried"
+fi
+count=$(wc -l <"$room/calls")
 
 # Waits until the toolchain was called $1 times, for at most some 20 seconds.
 until_built() {
@@ -104,7 +109,7 @@ echo >>$source
 echo 30 >"$room/build_seconds"
 ./t1s run $script >"$room/text" 2>"$room/said" &
 first=$!
-until_built $((count + 2))
+until_built $((count + 1))
 kill -TERM $first
 wait $first
 ended=$?

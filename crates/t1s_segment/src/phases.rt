@@ -47,28 +47,28 @@ pub fn drive_all<N: NodeMachine, W: Watch>(
 pub fn hear_all<N: NodeMachine>(
     nodes: &mut [N],
     totals: &mut [NodeTotals],
-    heard: &mut [(Heard, bool)],
+    last: &mut [(Heard, bool)],
     cable: &Cable,
     tick: u64,
 )
     requires nodes { length nodes.old ≡ length cable.now.places }
     requires totals { length totals.old ≡ length cable.now.places }
-    requires heard { length heard.old ≡ length cable.now.places }
+    requires last { length last.old ≡ length cable.now.places }
     requires few { length cable.now.places ≤ 16 }
-    requires in_range { AreHeard heard.old }
+    requires in_range { AreHeard last.old }
     ensures nodes { (rows : List (List (Option Quarter))) → Stands rows cable.now →
         nodes.new ≡ after_hear (machine_by N.drive_phase N.hear_phase) tick (heard (at_depth rows) cable.now.places) 0 nodes.old }
     ensures totals { (rows : List (List (Option Quarter))) → Stands rows cable.now →
         totals.new ≡ each_with after_outcome totals.old
         (hear_outcomes (machine_by N.drive_phase N.hear_phase) tick (heard (at_depth rows) cable.now.places) 0 nodes.old) }
-    ensures heard { (rows : List (List (Option Quarter))) → Stands rows cable.now →
-        heard.new ≡ map heard_tick
+    ensures last { (rows : List (List (Option Quarter))) → Stands rows cable.now →
+        last.new ≡ map heard_tick
         (hear_outcomes (machine_by N.drive_phase N.hear_phase) tick (heard (at_depth rows) cable.now.places) 0 nodes.old) }
-    ensures in_range { AreHeard heard.new }
+    ensures in_range { AreHeard last.new }
 {
     for j in 0..nodes.len() {
         let report = nodes[j].hear(tick, cable.heard(j as u8));
         totals[j] = after_clash(totals[j], report.clash);
-        heard[j] = (report.heard, report.drove);
+        last[j] = (report.heard, report.drove);
     }
 }

@@ -10,8 +10,8 @@ use Rattle.t1s_world.specs.World.{Machine, Past, past, driven_at, heard_at}
 use Rattle.t1s_world.specs.Events.{count_below}
 use Rattle.t1s_ring.specs.Queue.{empty_queue}
 use Rattle.plca_control.specs.declared.ControlSet.{ControlSet}
-use Rattle.t1s_mac.specs.declared.picked.PickedDraws.{PickedDraws}
-use Rattle.t1s_mac.specs.declared.picked.PickedDraws.TheVariants.{Seed}
+use Rattle.t1s_mac.specs.declared.picked_draws.PickedDraws.{PickedDraws}
+use Rattle.t1s_mac.specs.declared.picked_draws.PickedDraws.TheVariants.{Seed}
 use Rattle.t1s_node.specs.declared.settings.NodeSet.{NodeSet}
 use Rattle.t1s_node.specs.Node.{node_start}
 use Rattle.t1s_script.specs.declared.script.Script.{Script}

@@ -1,1 +1,2 @@
-
+pub mod PhaseSteps
+pub mod Playing

@@ -5,7 +5,7 @@ use Rattle.std.proofs.lemmas.List.{length-map, get_or_past, take_more, length-ta
 use Rattle.t1s_symbols.specs.declared.Heard.{Heard}
 use Rattle.t1s_world.specs.Hearing.{heard}
 use Rattle.t1s_world.proofs.ListLemmas.{slice_get-map, get_or-map, written_more, get_or-unwritten}
-use Rattle.t1s_world.specs.World.{Machine, past, at_depth, after_drive, row_of, after_hear, hear_outcomes, after_tick, driven_at, heard_at}
+use Rattle.t1s_world.specs.World.{Machine, past, at_depth, after_drive, row_of, after_hear, hear_outcomes, after_tick, driven_at, heard_at, hear_outcomes_at}
 
 module _ {Node DriveOutcome HearOutcome : Type 0} (m : Machine Node DriveOutcome HearOutcome) (t : ℕ) where
   module _ (h : ℕ → Heard) where
@@ -60,6 +60,14 @@ module _ {Node DriveOutcome HearOutcome : Type 0} (m : Machine Node DriveOutcome
         let next : s + 1 + i ≡ s + suc i = omega arith in
         rw (← next) (slice_get-after_hear (s + 1) ns i n e)
 
+    -- and what comes of it there
+    slice_get-hear_outcomes : (s : ℕ) (ns : List Node) (i : ℕ) (n : Node) → slice_get ns i ≡ Some n → slice_get (hear_outcomes m t h s ns) i ≡ Some (m.hear t (h (s + i)) n).1
+    slice_get-hear_outcomes s [] i n e = cc
+    slice_get-hear_outcomes s (x ∷ ns) zero n e = let same : x ≡ n = cc in rw (add-zero, same) refl
+    slice_get-hear_outcomes s (x ∷ ns) (suc i) n e =
+        let next : s + 1 + i ≡ s + suc i = omega arith in
+        rw (← next) (slice_get-hear_outcomes (s + 1) ns i n e)
+
 module _ {Node DriveOutcome HearOutcome : Type 0} (m : Machine Node DriveOutcome HearOutcome) (places : List ℕ) (first : List Node) where
   pub past-zero : past m places first 0 ≡ record { nodes = first; rows = [] }
   unfolding past
@@ -94,6 +102,14 @@ module _ {Node DriveOutcome HearOutcome : Type 0} (m : Machine Node DriveOutcome
       let before = slice_get-map (λ n. (m.drive t n).0) (past m places first t).nodes i n e in
       let at : slice_get (after_hear m t h 0 nodes) i ≡ Some (m.hear t (h (0 + i)) (m.drive t n).0).0 = slice_get-after_hear m t h 0 nodes i (m.drive t n).0 before in
       rw (nodes-suc t) (rw zero-add at at)
+
+  -- what comes of its hear phase
+  pub hear_outcome_is : (t i : ℕ) (n : Node) → slice_get (past m places first t).nodes i ≡ Some n → slice_get (hear_outcomes_at m places first t) i ≡ Some (m.hear t (heard_at m places first t i) (m.drive t n).0).1
+  hear_outcome_is t i n e =
+      let nodes : List Node = after_drive m t (past m places first t).nodes in
+      let before = slice_get-map (λ n. (m.drive t n).0) (past m places first t).nodes i n e in
+      let at : slice_get (hear_outcomes m t (heard_at m places first t) 0 nodes) i ≡ Some (m.hear t (heard_at m places first t (0 + i)) (m.drive t n).0).1 = slice_get-hear_outcomes m t (heard_at m places first t) 0 nodes i (m.drive t n).0 before in
+      rw zero-add at at
 
   -- what a node drives
   pub driven_is : (t i : ℕ) (n : Node) → slice_get (past m places first t).nodes i ≡ Some n → driven_at m places first t i ≡ m.quarter (m.drive t n).1

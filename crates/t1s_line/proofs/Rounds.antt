@@ -1,6 +1,6 @@
 -- A node with ID 0 that hears nothing, tick by tick of its round: a beacon, the fall of the carrier, and an
 -- opportunity for each ID.
-use Rattle.std.proofs.Common.{◌≡◌, ℕ, ◌+◌, ◌-◌, ◌*◌, ◌<◌, ◌≤◌, ◌⊎◌, inl, inr, Bool, true, false, cond, eqb, ltb, leb, lt-ltb, le-ltb, List, [], refl, ◌∙◌, arith, rules, ap, subst}
+use Rattle.std.proofs.Common.{◌≡◌, ℕ, ◌+◌, ◌-◌, ◌*◌, ◌<◌, ◌≤◌, ◌⊎◌, inl, inr, Bool, true, false, cond, eqb, ltb, leb, refl, ◌∙◌, arith, rules, ap, subst}
 use Rattle.std.proofs.Math.Nat.{mul-le-mul_right}
 use Rattle.std.specs.Prelude.{is_some, Option, ◌||◌}
 use Rattle.std.proofs.lemmas.Bool.Decides.{nat_tests}
@@ -8,70 +8,17 @@ use Rattle.std.proofs.lemmas.Bool.{cases_lt}
 use Rattle.t1s_symbols.specs.declared.Heard.TheVariants.{Nothing}
 use Rattle.t1s_symbols.specs.declared.Quarter.{Quarter}
 use Rattle.t1s_pcs_tx.specs.declared.TxCmd.{TxCmd}
-use Rattle.t1s_pcs_tx.specs.declared.TxCmd.TheVariants.{None as NoCmd, Beacon as BeaconCmd, Commit as CommitCmd}
-use Rattle.t1s_pcs_tx.specs.State.{Quiet, Beaconing, TxState, quarter_of}
-use Rattle.t1s_pcs_tx.specs.TransmitTable.{transmit_step, turn_to, chosen_turn, command_choice}
+use Rattle.t1s_pcs_tx.specs.declared.TxCmd.TheVariants.{None as NoCmd, Beacon as BeaconCmd}
 use Rattle.plca_control.specs.declared.State.{State}
 use Rattle.plca_control.specs.declared.State.TheVariants.{Recover, Beacon, Syncing, WaitTo}
 use Rattle.plca_control.specs.State.{ControlState}
 use Rattle.plca_control.specs.ControlTable.{control_row}
 use Rattle.t1s_node.specs.CarrierTable.{carrier_step}
 use Rattle.t1s_node.specs.Node.{NodeState, reading_of, node_drive, node_hear}
-use Rattle.t1s_line.proofs.Frameless.{IsFrameless, DrivesTo, drives_to, given, told_alone, told_control, quiet_told, beacon_told, beacon_on}
+use Rattle.t1s_line.proofs.Frameless.{DrivesTo, given, told_control}
+use Rattle.t1s_line.proofs.Signals.{Signal, quiet, beacon, signal_tx, sounds, sounds_is, signal_step, InRange, IsSpare, HasSignal, signal_drives}
 
--- what such a node drives: nothing, or the quarter of a beacon's symbol
-pub data Signal : Type 0 where
-  quiet : Signal
-  beacon : (part : ℕ) → Signal
-
-abbrev pub signal_tx : Signal → List Bool → TxState
-signal_tx quiet past = record { stage = Quiet; part = 0; past = past }
-signal_tx (beacon part) past = record { stage = Beaconing; part = part; past = past }
-
-abbrev pub sounds : Signal → Bool
-sounds quiet = false
-sounds (beacon part) = true
-
--- the signal after one more tick, by what is told
-abbrev pub signal_chosen : TxCmd → Signal
-signal_chosen NoCmd = quiet
-signal_chosen BeaconCmd = beacon 0
-signal_chosen CommitCmd = quiet
-
-abbrev pub signal_step : Signal → TxCmd → Signal
-signal_step quiet cmd = signal_chosen cmd
-signal_step (beacon part) cmd = cond (ltb part 3) (beacon (part + 1)) (signal_chosen cmd)
-
-abbrev pub InRange : Signal → Type 0
-InRange quiet = Unit {0}
-InRange (beacon part) = part < 4
-
-abbrev pub IsSpare : TxCmd → Type 0
-IsSpare NoCmd = Unit {0}
-IsSpare BeaconCmd = Unit {0}
-IsSpare CommitCmd = ⊥
-
-chosen_is : (cmd : TxCmd) (past : List Bool) → IsSpare cmd → chosen_turn (command_choice cmd past []) ≡ turn_to (signal_tx (signal_chosen cmd) past) []
-chosen_is NoCmd past spare = refl
-chosen_is BeaconCmd past spare = refl
-chosen_is CommitCmd past spare = absurd spare
-
-signal_steps : (x : Signal) (past : List Bool) (cmd : TxCmd) → InRange x → IsSpare cmd → transmit_step (signal_tx x past) (told_alone cmd) [] ≡ turn_to (signal_tx (signal_step x cmd) past) []
-signal_steps quiet past cmd low spare = quiet_told 0 past cmd ∙ chosen_is cmd past spare
-signal_steps (beacon part) past cmd low spare = elim (cases_lt part 3) [
-  | inl lt ↦ rw (lt-ltb part 3 lt) (beacon_on part past cmd lt)
-  | inr ge ↦ rw (le-ltb part 3 ge) (beacon_told part past cmd (omega arith) ∙ chosen_is cmd past spare)
-]
-
-sounds_is : (y : Signal) (past : List Bool) → (is_some (quarter_of (signal_tx y past)) || false) ≡ sounds y
-sounds_is quiet past = refl
-sounds_is (beacon part) past = refl
-
-pub record HasSignal (n : NodeState) (x : Signal) : Type 0 where
-  pub past : List Bool
-  pub tx : n.core.tx ≡ signal_tx x past
-  pub frameless : IsFrameless n.core
-
+-- what the node is set to
 pub record IsSetTo (n : NodeState) (ids wait up down : ℕ) : Type 0 where
   pub id : n.core.control.set.id ≡ 0
   pub count : n.core.control.set.count ≡ ids
@@ -135,8 +82,7 @@ module _ (ids wait up down : ℕ) where
   pub ticked : (n : NodeState) (state : State) (cmd : TxCmd) (x y : Signal) → IsSetTo n ids wait up down → HasSignal n x → InRange x → IsSpare cmd → control_row n.core.control.set n.core.control.state (told_control (reading_of n) n.core) ≡ (state, cmd) → signal_step x cmd ≡ y → Ticked n state y
   ticked n state cmd x y set has low spare e step =
       let told : (given (reading_of n) n.core).1.cmd ≡ cmd = ap (λ (r : State × TxCmd). r.1) e in
-      let turn : transmit_step n.core.tx (told_alone (given (reading_of n) n.core).1.cmd) [] ≡ turn_to (signal_tx y has.past) [] = rw (told, has.tx, ← step) (signal_steps x has.past cmd low spare) in
-      let d : DrivesTo (reading_of n) n.core (signal_tx y has.past) = drives_to (reading_of n) n.core (signal_tx y has.past) has.frameless turn in
+      let d : DrivesTo (reading_of n) n.core (signal_tx y has.past) = signal_drives n x y cmd has low spare told step in
       let set_is : (lone n).core.control.set ≡ n.core.control.set = ap (λ (k : ControlState). k.set) d.control in
       record {
         set = record { id = rw set_is set.id; count = rw set_is set.count; to = rw set_is set.to; rise = set.rise; fall = set.fall };

@@ -5,3 +5,4 @@ pub mod Runs
 pub mod Track
 pub mod World
 pub mod Beacons
+pub mod FramelessNodes

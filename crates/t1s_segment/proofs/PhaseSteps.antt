@@ -15,6 +15,7 @@ use Rattle.t1s_world.specs.World.{Machine, after_drive, drive_outcomes, row_of, 
 use Rattle.t1s_world.proofs.ListLemmas.{get_or-unwritten, each_with_more, written_more}
 use Rattle.t1s_world.proofs.WorldLemmas.{length-hear_outcomes, hear_outcomes_more}
 use Rattle.t1s_cable.specs.Stands.{no_puts}
+use Rattle.t1s_script.specs.declared.script.NodeLine.{NodeLine}
 use Rattle.t1s_line.specs.declared.totals.NodeTotals.{NodeTotals}
 use Rattle.t1s_line.specs.EventRecords.{EventRecord}
 use Rattle.t1s_line.specs.Outcomes.{DriveOutcome, HearOutcome}
@@ -120,7 +121,7 @@ heard_set (x ∷ ticks) zero h fine all (suc k) = all (suc k)
 heard_set (x ∷ ticks) (suc i) h fine all zero = all 0
 heard_set (x ∷ ticks) (suc i) h fine all (suc k) = heard_set ticks i h fine (λ j. all (suc j)) k
 
-pub nothing_heard : (n : ℕ) → AreHeard (replicate n (Nothing, false))
-nothing_heard zero k = tt
-nothing_heard (suc n) zero = tt
-nothing_heard (suc n) (suc k) = nothing_heard n k
+pub nothing_heard : (lines : List NodeLine) → AreHeard (map (λ (n : NodeLine). (Nothing, false)) lines)
+nothing_heard [] k = tt
+nothing_heard (n ∷ lines) zero = tt
+nothing_heard (n ∷ lines) (suc k) = nothing_heard lines k

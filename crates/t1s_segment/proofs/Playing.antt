@@ -58,48 +58,38 @@ module _ {N : Type 0} (m : Machine N DriveOutcome HearOutcome) where
         sym (length-nodes m (places_in lines) first t)
         ∙ (ap (λ (ns : List N). length ns) (sym plays.nodes) ∙ (sizes ∙ (ap (λ (ps : List ℕ). length ps) plays.places ∙ length-map lines (λ (n : NodeLine). n.place))))
 
-    module _ (t : ℕ) (g h : EngineState N) (plays : Plays m lines first end t g) (each : length first ≡ length lines) (left : g.tick < g.end) (fits : g.tick < 2 ^ 64 - 1) (ticked : Ticked g h) where
-      places : List ℕ
-      places = places_in lines
-
-      rows : List (List (Option Quarter))
-      rows = row_of m g.tick g.nodes ∷ (past m places first t).rows
-
-      keeps : CableStands (rows ++ no_puts places ∷ []) h.cable
-      keeps = ticked.cable ((past m places first t).rows ++ no_puts places ∷ []) plays.cable
-
-      same : at_depth (rows ++ no_puts places ∷ []) ≡ at_depth rows
-      same = at_depth_same places rows
-
-      later : past m places first (t + 1) ≡ after_tick m g.cable.places g.tick (record { nodes = g.nodes; rows = (past m places first t).rows })
-      later = rw (add-one, plays.tick, plays.nodes, plays.places) (past-suc m places first t)
-
-      sized : length (outcomes m lines first t) ≡ length lines
-      sized =
-          let nodes : List N = after_drive m t (past m places first t).nodes in
-          length-hear_outcomes m t (heard (at_depth (past m places first (suc t)).rows) places) 0 nodes
-          ∙ (length-map (past m places first t).nodes (λ n. (m.drive t n).0) ∙ (length-nodes m places first t ∙ each))
-
-      -- what comes of the hear phase
-      outcomes_are : outcomes m lines first t ≡ hear_outcomes m g.tick (heard (at_depth rows) g.cable.places) 0 (after_drive m g.tick g.nodes)
-      outcomes_are =
-          let rows_are : (past m places first (suc t)).rows ≡ rows = rw add-one at (ap (λ (p : Past N). p.rows) later) in
-          rw (rows_are, plays.tick, plays.nodes, plays.places) refl
-
-      pub plays_next : Plays m lines first end (t + 1) h
-      plays_next =
-          let history : List (List (Option Quarter)) = rows ++ no_puts places ∷ [] in
-          record {
-            in_time = omega (arith, plays.in_time, plays.tick, plays.end_is, left);
-            tick = ticked.tick ∙ ap (λ (n : ℕ). n + 1) plays.tick;
-            end_is = ticked.end ∙ plays.end_is;
-            places = ticked.places ∙ plays.places;
-            nodes = rw later (rw same at (ticked.nodes history keeps));
-            cable = rw later keeps;
-            settled = rw (settled-more m lines first t, ticked.settled, plays.settled, plays.tick, plays.nodes) refl;
-            totals = rw (totals-more m lines first t (omega (arith, fits, plays.tick)) sized, outcomes_are) (rw (same, plays.totals) at (ticked.totals history keeps));
-            heard = rw (heard-more m lines first t, outcomes_are) (rw same at (ticked.heard history keeps));
-          }
+    pub plays_next : (t : ℕ) (g h : EngineState N) → Plays m lines first end t g → length first ≡ length lines → g.tick < g.end → g.tick < 2 ^ 64 - 1 → Ticked g h → Plays m lines first end (t + 1) h
+    plays_next t g h plays each left fits ticked =
+        let places : List ℕ = places_in lines in
+        let old : List (List (Option Quarter)) = (past m places first t).rows in
+        let rows : List (List (Option Quarter)) = row_of m g.tick g.nodes ∷ old in
+        let history : List (List (Option Quarter)) = rows ++ no_puts places ∷ [] in
+        let keeps : CableStands history h.cable = ticked.cable (old ++ no_puts places ∷ []) plays.cable in
+        let same : at_depth history ≡ at_depth rows = at_depth_same places rows in
+        let hears : ℕ → Heard = heard (at_depth rows) g.cable.places in
+        let later : past m places first (suc t) ≡ after_tick m g.cable.places g.tick (record { nodes = g.nodes; rows = old }) =
+        rw (plays.tick, plays.nodes, plays.places) (past-suc m places first t) in
+        let next : past m places first (t + 1) ≡ after_tick m g.cable.places g.tick (record { nodes = g.nodes; rows = old }) = rw add-one later in
+        let nodes : List N = after_drive m t (past m places first t).nodes in
+        let sized : length (outcomes m lines first t) ≡ length lines =
+        length-hear_outcomes m t (heard (at_depth (past m places first (suc t)).rows) places) 0 nodes
+        ∙ (length-map (past m places first t).nodes (λ n. (m.drive t n).0) ∙ (length-nodes m places first t ∙ each)) in
+        let rows_are : (past m places first (suc t)).rows ≡ rows = ap (λ (p : Past N). p.rows) later in
+        let came : outcomes m lines first t ≡ hear_outcomes m t (heard (at_depth rows) places) 0 nodes = rw rows_are refl in
+        let heard_nodes : h.nodes ≡ after_hear m g.tick hears 0 (after_drive m g.tick g.nodes) = rw same at (ticked.nodes history keeps) in
+        let heard_totals : h.totals ≡ each_with after_outcome g.totals (hear_outcomes m g.tick hears 0 (after_drive m g.tick g.nodes)) = rw same at (ticked.totals history keeps) in
+        let heard_last : h.heard ≡ map heard_tick (hear_outcomes m g.tick hears 0 (after_drive m g.tick g.nodes)) = rw same at (ticked.heard history keeps) in
+        record {
+          in_time = omega (arith, plays.in_time, plays.tick, plays.end_is, left);
+          tick = ticked.tick ∙ ap (λ (n : ℕ). n + 1) plays.tick;
+          end_is = ticked.end ∙ plays.end_is;
+          places = ticked.places ∙ plays.places;
+          nodes = rw next heard_nodes;
+          cable = rw next keeps;
+          settled = rw (settled-more m lines first t, ticked.settled, plays.settled, plays.tick, plays.nodes) refl;
+          totals = rw (totals-more m lines first t (omega (arith, fits, plays.tick)) sized, came, heard_totals, plays.totals, plays.tick, plays.nodes, plays.places) refl;
+          heard = rw (heard-more m lines first t, came, heard_last, plays.tick, plays.nodes, plays.places) refl;
+        }
 
     -- once a tick was played, it keeps what each node heard in the last one
     pub heard_is : (t : ℕ) (g : EngineState N) (node : ℕ) → Plays m lines first end t g → 0 < g.tick → option_map (λ j. get_or g.heard j (Nothing, false)) (position (λ (n : NodeTotals). n.node == node) g.totals) ≡ last_heard_in m lines first node t

@@ -1,5 +1,5 @@
 //! The two phases of a tick, over all nodes.
-ghost use Rattle.std.specs.Prelude.{◌≡◌, ◌≤◌, List, Option, ◌∷◌, length, map};
+ghost use Rattle.std.specs.Prelude.{◌≡◌, ◌≤◌, ◌&&◌, List, Option, ◌∷◌, length, map};
 ghost use Rattle.t1s_symbols.specs.declared.Quarter.{Quarter};
 ghost use Rattle.t1s_world.specs.Hearing.{heard};
 ghost use Rattle.t1s_world.specs.Lists.{each_with};
@@ -15,6 +15,13 @@ use crate::totals::after_clash;
 use t1s_cable::Cable;
 use t1s_line::{NodeTotals, Watch};
 use t1s_symbols::Heard;
+
+/// Whether both hold.
+fn both(first: bool, second: bool) -> bool
+    ensures { result ≡ (first && second) }
+{
+    first && second
+}
 
 /// The drive phase of a tick, node by node: what happens is told, and what is driven is put on the cable. It answers
 /// whether the status of every node is OK.
@@ -38,7 +45,7 @@ pub fn drive_all<N: NodeMachine, W: Watch>(
     for i in 0..nodes.len() {
         let report = nodes[i].drive(tick, watch);
         cable.put(i as u8, report.quarter);
-        ok = ok && report.ok;
+        ok = both(ok, report.ok);
     }
     ok
 }

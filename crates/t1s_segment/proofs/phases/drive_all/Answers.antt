@@ -1,4 +1,4 @@
-use Rattle.std.proofs.Common.{take, drop, length, ◌++◌, arith, ◌<◌, ◌∙◌}
+use Rattle.std.proofs.Common.{take, drop, length, ◌++◌, arith, ◌<◌, ◌∙◌, sym}
 use Rattle.t1s_world.proofs.EventLemmas.{SeesEvents-append}
 use Rattle.t1s_world.specs.World.{row_of}
 use Rattle.t1s_cable.specs.Stands.{no_puts}
@@ -31,7 +31,7 @@ loop-i-preserved g c =
           let told = rw (← is) at drives.events in
           rw (events_more m t xs ys i x lt before.nodes is)
           (SeesEvents-append g.W.Watch.sees c.args.watch.now c.loop-i.watch c.drive-report.new.watch (events_of m t (take i xs)) (m.drive t x).1.events before.events told);
-      ok = ?;
+      ok = rw (c.both-ok.ensures, before.ok, drives.ok, ← is) (sym (ok_more m t xs ys i x lt before.nodes is));
     }
 
 pub returns-clause-put : goal.returns-clause-put

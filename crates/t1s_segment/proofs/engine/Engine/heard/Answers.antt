@@ -1,5 +1,9 @@
 use Rattle.std.proofs.Common.{Some, arith, ap, sym, ◌∙◌, false, Bool}
+use Rattle.std.specs.Prelude.{◌==◌}
 use Rattle.std.proofs.lemmas.List.{get_or_default}
+use Rattle.std.proofs.lemmas.List.Quantifiers.{position-Some}
+use Rattle.t1s_line.specs.declared.totals.NodeTotals.{NodeTotals}
+use Rattle.t1s_line.specs.Totals.{no_totals}
 use Rattle.t1s_symbols.specs.declared.Heard.{Heard}
 use Rattle.t1s_symbols.specs.declared.Heard.TheVariants.{Nothing}
 use Rattle.t1s_line.specs.Outcomes.{machine_by}
@@ -19,5 +23,6 @@ returns-clause-value g c lines first end t plays =
     let is = heard_is (machine_by g.N.NodeMachine.drive_phase g.N.NodeMachine.hear_phase) lines first end t _ c.args.node before (omega arith) in
     let found = rw c.as_slice.ensures.value at (sym c.position_of.ensures ∙ c.in_ok-j.was) in
     let silence : Heard × Bool = (Nothing, false) in
-    let here = get_or_default c.self.inside.heard.items c.in_ok-j.j silence c.index.result.now (omega arith) in
+    let within = (position-Some (λ (n : NodeTotals). n.node == c.args.node) c.self.inside.totals.items c.in_ok-j.j (no_totals 0) found).0 in
+    let here = get_or_default c.self.inside.heard.items c.in_ok-j.j silence c.index.result.now (omega (arith, within, c.self.invariant.heard_len, c.self.invariant.totals_len)) in
     ap Some (c.index.ensures ∙ sym here) ∙ rw found at is

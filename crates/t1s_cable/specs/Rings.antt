@@ -1,5 +1,6 @@
 -- The bounded histories: each ring keeps the newest of what its node drove.
-use Rattle.std.specs.Prelude.{ℕ, zero, suc, List, [], ◌∷◌, take, get_or, Option, None}
+use Rattle.std.specs.Prelude.{ℕ, zero, suc, List, [], ◌∷◌, take, get_or, Option, None, IfSome}
+use Rattle.t1s_symbols.specs.Ranges.{IsQuarter}
 use Rattle.circular_buffer.specs.Buffer.{Buffer, buffer}
 use Rattle.t1s_symbols.specs.declared.Quarter.{Quarter}
 
@@ -19,3 +20,7 @@ ring_at rings i d = kept_at (get_or rings i (buffer [] 0)) d
 abbrev pub put_at : List (Option Quarter) → List (Buffer (Option Quarter)) → ℕ → ℕ → Option Quarter
 put_at row rings i zero = get_or row i None
 put_at row rings i (suc d) = ring_at rings i d
+
+-- whatever was put is a quarter in range
+abbrev pub AreQuarters : (ℕ → ℕ → Option Quarter) → Type 0
+AreQuarters at = (i d : ℕ) → IfSome (at i d) IsQuarter

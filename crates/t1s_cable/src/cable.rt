@@ -1,4 +1,5 @@
-use crate::kept::{Ring, end_tick, hear_at, new_ring};
+//! `Cable`, on which the nodes of a segment put what they drive.
+use crate::kept::{Ring, end_tick, hear_at, new_ring, span};
 use std::alloc::{AllocError, Global};
 use std::marker::Model;
 use t1s_symbols::{Heard, Quarter};
@@ -13,6 +14,7 @@ pub struct Cable {
 
 impl Model for Cable {
     ghost use Rattle.std.specs.Prelude.{◌≡◌, length};
+    ghost use Rattle.t1s_cable.specs.Rings.{AreQuarters, put_at};
     ghost use Rattle.t1s_cable.specs.State.{CableState};
 
     ghost Value = { CableState };
@@ -26,18 +28,20 @@ impl Model for Cable {
     ghost invariant = { λ c. record {
       row_len : length c.row.items ≡ length c.places.items;
       rings_len : length c.rings.items ≡ length c.places.items;
+      quarters : AreQuarters (put_at c.row.items c.rings.items);
     } };
 }
 
 impl Cable {
-    ghost use Rattle.std.specs.Prelude.{◌≡◌, ◌<◌, ◌≤◌, List, Option, None, [], ◌∷◌, length, get_or, set, IfOk};
+    ghost use Rattle.std.specs.Prelude.{◌≡◌, ◌<◌, ◌≤◌, List, Option, None, [], ◌∷◌, length, get_or, set, IfOk, IfSome};
+    ghost use Rattle.t1s_symbols.specs.Ranges.{IsHeard, IsQuarter};
     ghost use Rattle.t1s_symbols.specs.declared.Quarter.{Quarter};
     ghost use Rattle.t1s_world.specs.Hearing.{heard};
     ghost use Rattle.t1s_world.specs.World.{at_depth};
     ghost use Rattle.t1s_cable.specs.Stands.{Stands, no_puts};
 
     /// A cable with nodes at these 1 to 16 places, in its first tick, in which nothing is put yet. It takes
-    /// all memory of the run. A place is a distance along the cable in whole bit times.
+    /// all memory of the run, room for what each node puts in as many ticks as the cable spans, and the current one. A place is a distance along the cable in whole bit times.
     pub fn new(alloc: Global, places: &[u8]) -> Result<Cable, AllocError>
         requires some { 1 ≤ length places.now }
         requires few { length places.now ≤ 16 }
@@ -45,13 +49,14 @@ impl Cable {
         ensures row { IfOk result (λ c. c.row ≡ no_puts places.now) }
         ensures stands { IfOk result (λ c. Stands (no_puts places.now ∷ []) c) }
     {
+        let reach = span(places);
         let mut kept = Vec::with_capacity(alloc, places.len())?;
         let mut row = Vec::with_capacity(alloc, places.len())?;
         let mut rings = Vec::with_capacity(alloc, places.len())?;
         for place in places {
             kept.push(*place)?;
             row.push(None)?;
-            rings.push(new_ring(alloc)?)?;
+            rings.push(new_ring(alloc, reach)?)?;
         }
         Ok(Cable {
             places: kept,
@@ -61,10 +66,11 @@ impl Cable {
     }
 
     /// Puts what a node drives in the current tick. The node is a position among the places, and nothing was
-    /// put for it in this tick. A node for which nothing is put drives nothing. It takes no memory.
+    /// put for it in this tick; a nibble in the quarter is below 16, and its part below 4. A node for which nothing is put drives nothing. It takes no memory.
     pub fn put(&mut self, node: u8, q: Option<Quarter>)
         requires node { node < length self.old.places }
         requires free { get_or self.old.row node None ≡ None }
+        requires quarter { IfSome q IsQuarter }
         ensures places { self.new.places ≡ self.old.places }
         ensures row { self.new.row ≡ set self.old.row node q }
         ensures stands { (row : List (Option Quarter)) (past : List (List (Option Quarter))) →
@@ -77,8 +83,9 @@ impl Cable {
     /// as many ticks ago as it is far away. The node is a position among the places. There is no noise.
     pub fn heard(&self, node: u8) -> Heard
         requires { node < length self.now.places }
-        ensures { (rows : List (List (Option Quarter))) →
+        ensures value { (rows : List (List (Option Quarter))) →
             Stands rows self.now → result ≡ heard (at_depth rows) self.now.places node }
+        ensures range { IsHeard result }
     {
         hear_at(
             self.places.as_slice(),

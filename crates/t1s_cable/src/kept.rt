@@ -1,6 +1,7 @@
-ghost use Rattle.std.specs.Prelude.{◌≡◌, ℕ, ◌<◌, [], length, replicate, slice_index, None, IfOk};
+//! What a cable keeps of each node, and what a node hears of it.
+ghost use Rattle.std.specs.Prelude.{◌≡◌, ◌<◌, [], length, replicate, slice_index, None, IfOk};
 ghost use Rattle.circular_buffer.specs.Buffer.{buffer};
-ghost use Rattle.t1s_world.specs.Hearing.{arriving, heard};
+ghost use Rattle.t1s_world.specs.Hearing.{arriving, farthest, heard, span};
 ghost use Rattle.t1s_world.specs.Lists.{each_with};
 ghost use Rattle.t1s_cable.specs.Rings.{kept_at, pushed, put_at};
 
@@ -12,14 +13,33 @@ use t1s_world::heard_with;
 /// What a node drove in the ticks before the current one, the newest first.
 pub type Ring = HeapCircularBuffer<Option<Quarter>>;
 
-/// How many ticks a ring keeps: no two places are further apart than 255.
-pub const HISTORY: usize = 255;
-
-/// A ring with room for the longest cable.
-pub fn new_ring(alloc: Global) -> Result<Ring, AllocError>
-    ensures { IfOk result (λ r. r ≡ buffer [] 255) }
+/// The greatest distance of a place from one of these.
+fn farthest(place: u8, places: &[u8]) -> u8
+    ensures { result ≡ farthest place places.now }
 {
-    HeapCircularBuffer::with_capacity(alloc, HISTORY)
+    let mut most = 0;
+    for other in places {
+        most = place.abs_diff(*other).max(most);
+    }
+    most
+}
+
+/// The span of these places: the greatest distance of two of them in whole bit times, 0 where there are fewer than two.
+pub fn span(places: &[u8]) -> u8
+    ensures { result ≡ span places.now }
+{
+    let mut most = 0;
+    for i in 0..places.len() {
+        most = farthest(places[i], &places[i + 1..]).max(most);
+    }
+    most
+}
+
+/// A ring that keeps what its node drove in as many ticks before the current one as the cable spans.
+pub fn new_ring(alloc: Global, span: u8) -> Result<Ring, AllocError>
+    ensures { IfOk result (λ r. r ≡ buffer [] span) }
+{
+    HeapCircularBuffer::with_capacity(alloc, usize::from(span))
 }
 
 /// Ends a tick, node by node: its ring keeps what it drove, and it drives nothing yet in the next.
@@ -83,8 +103,7 @@ pub fn hear_at(places: &[u8], row: &[Option<Quarter>], rings: &[Ring], j: usize)
     requires in_range { j < length places.now }
     requires row { length row.now ≡ length places.now }
     requires rings { length rings.now ≡ length places.now }
-    ensures value { result ≡ heard (put_at row.now rings.now) places.now j }
-    ensures near { (k : ℕ) → slice_index places.now k < 256 }
+    ensures { result ≡ heard (put_at row.now rings.now) places.now j }
 {
     let mut heard = Heard::Nothing;
     for i in 0..places.len() {

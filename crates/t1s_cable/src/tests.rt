@@ -1,4 +1,5 @@
-ghost use Rattle.std.specs.Prelude.{◌≡◌, length};
+ghost use Rattle.std.specs.Prelude.{◌≡◌, length, IfSome};
+ghost use Rattle.t1s_symbols.specs.Ranges.{IsQuarter};
 
 use super::*;
 use std::process::Abort;
@@ -19,7 +20,10 @@ const COMMIT: Quarter = Quarter {
 
 /// Turns to the next tick, in which each of three nodes drives what is given here.
 fn play(cable: &mut Cable, first: Option<Quarter>, second: Option<Quarter>, third: Option<Quarter>)
-    requires { length cable.old.places ≡ 3 }
+    requires nodes { length cable.old.places ≡ 3 }
+    requires first { IfSome first IsQuarter }
+    requires second { IfSome second IsQuarter }
+    requires third { IfSome third IsQuarter }
     ensures { length cable.new.places ≡ 3 }
 {
     cable.turn();

@@ -4,7 +4,7 @@ use Rattle.std.specs.Option.{option_to_list}
 use Rattle.std.proofs.lemmas.List.{append-nil}
 use Rattle.t1s_world.proofs.EventLemmas.{events_below-zero, events_below-more}
 use Rattle.t1s_script.specs.declared.script.Script.{Script}
-use Rattle.t1s_segment.specs.World.{heard_by}
+use Rattle.t1s_line.specs.World.{heard_by}
 use Rattle.t1s_capture.specs.Captures.{header, capture_text}
 use Rattle.t1s_capture.specs.Cut.{Tick, cut}
 use Rattle.t1s_capture.specs.WriterTable.{WriterState, WriterStands, row_step, row_end}

@@ -6,8 +6,8 @@ use Rattle.t1s_script.specs.ThinForm.{has_thin_form, IsThinNode, IsThinScript}
 use Rattle.t1s_script.specs.declared.script.Script.{Script}
 use Rattle.t1s_script.proofs.ThinScripts.{thin_scripts}
 use Rattle.t1s_script.proofs.Validity.{read_valid}
-use Rattle.t1s_segment.specs.Beacons.{beacon_start, IsBeacon}
-use Rattle.t1s_segment.proofs.BeaconTicks.{drives_are_beacons}
+use Rattle.t1s_line.specs.Beacons.{beacon_start, IsBeacon}
+use Rattle.t1s_line.proofs.BeaconTicks.{drives_are_beacons}
 use Rattle.t1s_cli.specs.RunLaws.{IsThinBeacon, HasBeacons, RunLaws}
 
 -- what reading gives for octets of the thin form is the thin script

@@ -5,8 +5,8 @@ use Rattle.t1s_world.specs.Drives.{IsDrive}
 use Rattle.t1s_script.specs.ThinForm.{has_thin_form}
 use Rattle.t1s_script.specs.declared.script.Script.{Script}
 use Rattle.t1s_script.specs.declared.script.NodeLine.{NodeLine}
-use Rattle.t1s_segment.specs.World.{driven_in}
-use Rattle.t1s_segment.specs.Beacons.{IsLoneCoordinator}
+use Rattle.t1s_line.specs.World.{driven_in}
+use Rattle.t1s_line.specs.Beacons.{IsLoneCoordinator}
 
 -- beacon k starts at tick a and ends before tick e: it lasts 20 ticks, or to the end of the run
 pub record IsThinBeacon (s : Script) (k a e : ℕ) : Type 0 where

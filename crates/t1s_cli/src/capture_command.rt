@@ -15,9 +15,10 @@ use crate::text_end::finish;
 use std::alloc::Global;
 use t1s_base::{Failed, Sink};
 use t1s_capture::CaptureWriter;
+use t1s_line::{Event, Watch};
 use t1s_report::Writer;
 use t1s_script::Script;
-use t1s_segment::{Event, Segment, Watch};
+use t1s_segment::Segment;
 
 /// A watch that nobody reads.
 #[derive(Drop)]

@@ -9,9 +9,9 @@ use Rattle.std.proofs.lemmas.List.{append-nil}
 use Rattle.t1s_script.specs.Script.{IsScript, IsNodeLine}
 use Rattle.t1s_script.specs.declared.script.Script.{Script}
 use Rattle.t1s_script.specs.declared.script.NodeLine.{NodeLine}
-use Rattle.t1s_segment.specs.declared.totals.NodeTotals.{NodeTotals}
-use Rattle.t1s_segment.specs.World.{totals_from, totals_below, clash_at}
-use Rattle.t1s_segment.specs.Totals.{totals_with}
+use Rattle.t1s_line.specs.declared.totals.NodeTotals.{NodeTotals}
+use Rattle.t1s_line.specs.World.{totals_from, totals_below, clash_at}
+use Rattle.t1s_line.specs.Totals.{totals_with}
 use Rattle.t1s_world.specs.Events.{count_below}
 
 -- the numbers rise, from a lowest one on

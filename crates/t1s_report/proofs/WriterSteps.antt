@@ -10,8 +10,8 @@ use Rattle.t1s_base.specs.Octets.{Grows, GrowsByPrefix}
 use Rattle.t1s_world.specs.Events.{SeesEvents, events_below}
 use Rattle.t1s_world.proofs.EventLemmas.{events_below-zero, events_below-more}
 use Rattle.t1s_script.specs.declared.script.Script.{Script}
-use Rattle.t1s_segment.specs.EventRecords.{EventRecord}
-use Rattle.t1s_segment.specs.World.{events_at, settled_below, totals_below}
+use Rattle.t1s_line.specs.EventRecords.{EventRecord}
+use Rattle.t1s_line.specs.World.{events_at, settled_below, totals_below}
 use Rattle.t1s_report.specs.declared.writer.Writer.{Writer}
 use Rattle.t1s_report.specs.EventLines.{event_line}
 use Rattle.t1s_report.specs.Lines.{line}

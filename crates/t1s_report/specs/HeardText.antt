@@ -3,7 +3,7 @@ use Rattle.std.specs.Prelude.{ℕ, List}
 use Rattle.std.specs.Option.{option_to_list}
 use Rattle.t1s_world.specs.Events.{events_below}
 use Rattle.t1s_script.specs.declared.script.Script.{Script}
-use Rattle.t1s_segment.specs.World.{heard_by}
+use Rattle.t1s_line.specs.World.{heard_by}
 use Rattle.t1s_capture.specs.Captures.{capture_text}
 use Rattle.t1s_capture.specs.Cut.{Tick, cut}
 

@@ -3,7 +3,7 @@ use Rattle.std.specs.Prelude.{ℕ, List, ◌++◌}
 use Rattle.std.specs.List.{concat, flat_map}
 use Rattle.t1s_world.specs.Events.{events_below}
 use Rattle.t1s_script.specs.declared.script.Script.{Script}
-use Rattle.t1s_segment.specs.World.{events_at}
+use Rattle.t1s_line.specs.World.{events_at}
 use Rattle.t1s_report.specs.EventLines.{event_line}
 use Rattle.t1s_report.specs.SummaryLines.{summary_lines_below}
 

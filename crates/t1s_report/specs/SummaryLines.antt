@@ -1,8 +1,8 @@
 -- The lines of the summary. Numbers are plain decimal.
 use Rattle.std.specs.Prelude.{ℕ, List, [], ◌∷◌, map, Option, None, Some, codes, decimal}
 use Rattle.t1s_script.specs.declared.script.Script.{Script}
-use Rattle.t1s_segment.specs.declared.totals.NodeTotals.{NodeTotals}
-use Rattle.t1s_segment.specs.World.{settled_below, totals_below}
+use Rattle.t1s_line.specs.declared.totals.NodeTotals.{NodeTotals}
+use Rattle.t1s_line.specs.World.{settled_below, totals_below}
 use Rattle.t1s_report.specs.Lines.{line}
 
 -- the line of the first tick in which every status was OK

@@ -1,11 +1,11 @@
 // The lines of events.
 ghost use Rattle.std.specs.Prelude.{◌≡◌};
-ghost use Rattle.t1s_segment.specs.EventRecords.{event_record};
+ghost use Rattle.t1s_line.specs.EventRecords.{event_record};
 ghost use Rattle.t1s_report.specs.EventLines.{event_line};
 
 use crate::fields::{clear, number, text};
 use t1s_base::Line;
-use t1s_segment::Event;
+use t1s_line::Event;
 
 /// Replaces the content of the line by that of an event: its tick, what happened, and the number of the node.
 pub fn event_line(out: &mut Line, e: &Event)
@@ -22,6 +22,12 @@ pub fn event_line(out: &mut Line, e: &Event)
         Event::Beacon { tick, node } => {
             number(out, tick);
             text(out, b" beacon ");
+            number(out, u64::from(node));
+            text(out, b"\n");
+        }
+        Event::Commit { tick, node } => {
+            number(out, tick);
+            text(out, b" commit ");
             number(out, u64::from(node));
             text(out, b"\n");
         }

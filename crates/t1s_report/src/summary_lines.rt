@@ -2,12 +2,13 @@
 ghost use Rattle.std.specs.Prelude.{◌≡◌, ◌⊎◌, ◌<◌, ℕ, [], length, nat_lt, get_or, slice_get, None, IsTrue};
 ghost use Rattle.t1s_script.specs.declared.script.Script.{Script};
 ghost use Rattle.t1s_segment.specs.Stands.{Stands};
-ghost use Rattle.t1s_segment.specs.World.{totals_below};
+ghost use Rattle.t1s_line.specs.World.{totals_below};
 ghost use Rattle.t1s_report.specs.SummaryLines.{settled_line, node_line, summary_lines_below};
 
 use crate::fields::{clear, count, number, text};
 use t1s_base::Line;
-use t1s_segment::{NodeTotals, Segment};
+use t1s_line::NodeTotals;
+use t1s_segment::Segment;
 
 /// How many numbers a node can have.
 const NODE_NUMBERS: u8 = 16;

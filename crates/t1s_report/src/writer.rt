@@ -5,7 +5,7 @@ ghost use Rattle.t1s_report.specs.WriterStep.{WriterStep};
 
 use crate::event_lines::event_line;
 use t1s_base::{Line, Sink};
-use t1s_segment::{Event, Watch};
+use t1s_line::{Event, Watch};
 
 /// Writes each text by one `write` call. After the first write that stops it writes nothing more. As a watch it writes
 /// the line of each event.

@@ -1,69 +1,127 @@
 -- Steps of the loops of a tick: one more node drives and puts it on the cable, one more node hears.
-use Rattle.std.proofs.Common.{◌≡◌, ℕ, ◌+◌, ◌<◌, ◌≤◌, List, [], ◌∷◌, ◌++◌, length, get_or, set, take, drop, Option, None, refl, ◌∙◌, ap, arith}
+use Rattle.std.proofs.Common.{◌≡◌, ℕ, zero, suc, ◌+◌, ◌<◌, ◌≤◌, Bool, true, false, List, [], ◌∷◌, ◌++◌, length, get_or, set, take, drop, map, replicate, Option, None, refl, ◌∙◌, ap, arith}
+use Rattle.std.specs.Prelude.{◌&&◌}
+use Rattle.std.specs.List.{list_all}
 use Rattle.std.proofs.lemmas.List.{append-nil, drop_all, length-map, length-take-le, length-replicate, map_push, take_all, take_more}
 use Rattle.std.proofs.lemmas.List.Concat.{flat_map-append}
 use Rattle.std.proofs.lemmas.List.Edits.{map_over_more}
+use Rattle.std.proofs.lemmas.List.Folds.{list_all-append}
 use Rattle.t1s_symbols.specs.declared.Heard.{Heard}
+use Rattle.t1s_symbols.specs.declared.Heard.TheVariants.{Nothing}
 use Rattle.t1s_symbols.specs.declared.Quarter.{Quarter}
+use Rattle.t1s_symbols.specs.Ranges.{IsHeard}
 use Rattle.t1s_world.specs.Lists.{each_with}
-use Rattle.t1s_world.specs.World.{after_drive, driven_by, row_of, after_hear, sensed_by}
+use Rattle.t1s_world.specs.World.{Machine, after_drive, drive_outcomes, row_of, after_hear, hear_outcomes}
 use Rattle.t1s_world.proofs.ListLemmas.{get_or-unwritten, each_with_more, written_more}
-use Rattle.t1s_world.proofs.WorldLemmas.{length-sensed_by, sensed_by_more}
+use Rattle.t1s_world.proofs.WorldLemmas.{length-hear_outcomes, hear_outcomes_more}
 use Rattle.t1s_cable.specs.Stands.{no_puts}
-use Rattle.t1s_segment.specs.declared.track.Track.{Track}
-use Rattle.t1s_segment.specs.declared.totals.NodeTotals.{NodeTotals}
-use Rattle.t1s_segment.specs.EventRecords.{EventRecord}
-use Rattle.t1s_segment.specs.Track.{Happened, Sensed, drive_track, hear_track, track_machine}
-use Rattle.t1s_segment.specs.World.{after_sensed, events_of}
+use Rattle.t1s_script.specs.declared.script.NodeLine.{NodeLine}
+use Rattle.t1s_line.specs.declared.totals.NodeTotals.{NodeTotals}
+use Rattle.t1s_line.specs.EventRecords.{EventRecord}
+use Rattle.t1s_line.specs.Outcomes.{DriveOutcome, HearOutcome}
+use Rattle.t1s_line.specs.Runs.{after_outcome, all_ok, events_of, heard_tick}
+use Rattle.t1s_segment.specs.State.{AreHeard}
 
-module _ (t : ℕ) (xs ys : List Track) (i : ℕ) (x : Track) (lt : i < length xs) (written : ys ≡ after_drive track_machine t (take i xs) ++ drop i xs) (is : x ≡ get_or ys i x) where
-  -- the node that drives next is still as it was
-  still : x ≡ get_or xs i x
-  still =
-      let done : List Track = after_drive track_machine t (take i xs) in
-      let len : length done ≡ i = length-map (take i xs) (λ n. (drive_track t n).0) ∙ length-take-le i xs (omega arith) in
-      is ∙ get_or-unwritten done xs ys i x len lt written
+none_at : (n i : ℕ) → ◌≡◌ {A = Option Quarter} (get_or (replicate n None) i None) None
+none_at zero i = refl
+none_at (suc n) zero = refl
+none_at (suc n) (suc i) = none_at n i
 
-  pub tracks_more : set ys i (drive_track t x).0 ≡ after_drive track_machine t (take (i + 1) xs) ++ drop (i + 1) xs
-  tracks_more = map_over_more (λ n. (drive_track t n).0) xs ys i x lt written is
+and_true : (a b : Bool) → (a && (b && true)) ≡ (a && b)
+and_true true true = refl
+and_true true false = refl
+and_true false b = refl
 
-  row_more : row_of track_machine t (take (i + 1) xs) ≡ row_of track_machine t (take i xs) ++ (drive_track t x).1.quarter ∷ []
-  row_more = rw (take_more xs i x lt, ← still) (map_push (λ n. (drive_track t n).1.quarter) (take i xs) x)
+module _ {N : Type 0} (m : Machine N DriveOutcome HearOutcome) (t : ℕ) (xs ys : List N) (i : ℕ) (x : N) (lt : i < length xs) where
+  -- one more node drives
+  module _ (written : ys ≡ after_drive m t (take i xs) ++ drop i xs) (is : x ≡ get_or ys i x) where
+    -- the node that drives next is still as it was
+    still : x ≡ get_or xs i x
+    still =
+        let done : List N = after_drive m t (take i xs) in
+        let len : length done ≡ i = length-map (take i xs) (λ n. (m.drive t n).0) ∙ length-take-le i xs (omega arith) in
+        is ∙ get_or-unwritten done xs ys i x len lt written
 
-  pub events_more : events_of t (take (i + 1) xs) ≡ events_of t (take i xs) ++ (drive_track t x).1.events
-  events_more =
-      let happened : Track → Happened = λ n. (drive_track t n).1 in
-      let events : Happened → List EventRecord = λ h. h.events in
-      let one : driven_by track_machine t (take i xs ++ x ∷ []) ≡ driven_by track_machine t (take i xs) ++ happened x ∷ [] = map_push happened (take i xs) x in
-      rw (take_more xs i x lt, ← still, one)
-      (flat_map-append events (driven_by track_machine t (take i xs)) (happened x ∷ [])
-      ∙ ap (λ (r : List EventRecord). events_of t (take i xs) ++ r) (append-nil (events (happened x))))
+    pub nodes_more : set ys i (m.drive t x).0 ≡ after_drive m t (take (i + 1) xs) ++ drop (i + 1) xs
+    nodes_more = map_over_more (λ n. (m.drive t n).0) xs ys i x lt written is
 
-  -- the row of the cable where the nodes below i have put what they drive
-  module _ (places : List ℕ) (sizes : length places ≡ length xs) where
-    row_len : length (row_of track_machine t (take i xs)) ≡ i
-    row_len = length-map (take i xs) (λ n. (drive_track t n).1.quarter) ∙ length-take-le i xs (omega arith)
+    row_more : row_of m t (take (i + 1) xs) ≡ row_of m t (take i xs) ++ m.quarter (m.drive t x).1 ∷ []
+    row_more = rw (take_more xs i x lt, ← still) (map_push (λ n. m.quarter (m.drive t n).1) (take i xs) x)
 
-    puts_len : length (no_puts places) ≡ length places
-    puts_len = length-replicate (length places) None
+    outcomes_more : drive_outcomes m t (take (i + 1) xs) ≡ drive_outcomes m t (take i xs) ++ (m.drive t x).1 ∷ []
+    outcomes_more = rw (take_more xs i x lt, ← still) (map_push (λ n. (m.drive t n).1) (take i xs) x)
 
-    pub put_more : set (row_of track_machine t (take i xs) ++ drop i (no_puts places)) i (drive_track t x).1.quarter ≡ row_of track_machine t (take (i + 1) xs) ++ drop (i + 1) (no_puts places)
-    put_more =
-        let row : List (Option Quarter) = row_of track_machine t (take i xs) in
-        rw row_more
-        (written_more row (no_puts places) (row ++ drop i (no_puts places)) i (drive_track t x).1.quarter None row_len (omega (arith, puts_len, sizes)) refl)
+    pub events_more : events_of m t (take (i + 1) xs) ≡ events_of m t (take i xs) ++ (m.drive t x).1.events
+    events_more =
+        let events : DriveOutcome → List EventRecord = λ d. d.events in
+        rw outcomes_more
+        (flat_map-append events (drive_outcomes m t (take i xs)) ((m.drive t x).1 ∷ [])
+        ∙ ap (λ (r : List EventRecord). events_of m t (take i xs) ++ r) (append-nil (m.drive t x).1.events))
+
+    pub ok_more : all_ok m t (take (i + 1) xs) ≡ (all_ok m t (take i xs) && (m.drive t x).1.ok)
+    ok_more =
+        let ok : DriveOutcome → Bool = λ d. d.ok in
+        rw outcomes_more
+        (list_all-append ok (drive_outcomes m t (take i xs)) ((m.drive t x).1 ∷ [])
+        ∙ and_true (all_ok m t (take i xs)) (m.drive t x).1.ok)
+
+    -- the row of the cable where the nodes below i have put what they drive
+    module _ (places : List ℕ) (sizes : length places ≡ length xs) where
+      row_len : length (row_of m t (take i xs)) ≡ i
+      row_len = length-map (take i xs) (λ n. m.quarter (m.drive t n).1) ∙ length-take-le i xs (omega arith)
+
+      puts_len : length (no_puts places) ≡ length places
+      puts_len = length-replicate (length places) None
+
+      pub put_more : set (row_of m t (take i xs) ++ drop i (no_puts places)) i (m.quarter (m.drive t x).1) ≡ row_of m t (take (i + 1) xs) ++ drop (i + 1) (no_puts places)
+      put_more =
+          let row : List (Option Quarter) = row_of m t (take i xs) in
+          rw row_more
+          (written_more row (no_puts places) (row ++ drop i (no_puts places)) i (m.quarter (m.drive t x).1) None row_len (omega (arith, puts_len, sizes)) refl)
+
+      -- and of the node i nothing is put yet
+      pub none_put : get_or (row_of m t (take i xs) ++ drop i (no_puts places)) i None ≡ None
+      none_put =
+          get_or-unwritten (row_of m t (take i xs)) (no_puts places) (row_of m t (take i xs) ++ drop i (no_puts places)) i None row_len (omega (arith, puts_len, sizes)) refl
+          ∙ none_at (length places) i
+
+  -- one more node hears: its clash is counted, and what it heard is kept
+  module _ (h : ℕ → Heard) (written : ys ≡ after_hear m t h 0 (take i xs) ++ drop i xs) (is : x ≡ get_or ys i x) where
+    outcomes_len : length (hear_outcomes m t h 0 (take i xs)) ≡ i
+    outcomes_len = length-hear_outcomes m t h 0 (take i xs) ∙ length-take-le i xs (omega arith)
+
+    pub each_more : {X : Type 0} (f : X → HearOutcome → X) (ns ms : List X) (n : X) → length ns ≡ length xs → ms ≡ each_with f (take i ns) (hear_outcomes m t h 0 (take i xs)) ++ drop i ns → n ≡ get_or ms i n → set ms i (f n (m.hear t (h i) x).1) ≡ each_with f (take (i + 1) ns) (hear_outcomes m t h 0 (take (i + 1) xs)) ++ drop (i + 1) ns
+    each_more f ns ms n sizes e at =
+        rw (hear_outcomes_more m t h xs ys i x lt written is)
+        (each_with_more f ns ms (hear_outcomes m t h 0 (take i xs)) i n (m.hear t (h i) x).1 (omega arith) outcomes_len e at)
 
 -- once all nodes have put what they drive, the row is that of the tick
-pub all_put : (t : ℕ) (xs : List Track) (places : List ℕ) (i : ℕ) → length places ≡ length xs → length xs ≤ i → row_of track_machine t (take i xs) ++ drop i (no_puts places) ≡ row_of track_machine t xs
-all_put t xs places i sizes past =
+pub all_put : {N : Type 0} (m : Machine N DriveOutcome HearOutcome) (t : ℕ) (xs : List N) (places : List ℕ) (i : ℕ) → length places ≡ length xs → length xs ≤ i → row_of m t (take i xs) ++ drop i (no_puts places) ≡ row_of m t xs
+all_put m t xs places i sizes past =
     let none : Option Quarter = None in
     let left : length (no_puts places) ≤ i = omega (arith, length-replicate (length places) none, sizes) in
-    rw (take_all i xs past, drop_all i (no_puts places) left) (append-nil (row_of track_machine t xs))
+    rw (take_all i xs past, drop_all i (no_puts places) left) (append-nil (row_of m t xs))
 
--- one more node hears, and its clash is counted
-pub totals_more : (t : ℕ) (h : ℕ → Heard) (xs ys : List Track) (ns ms : List NodeTotals) (i : ℕ) (x : Track) (n : NodeTotals) → i < length xs → length ns ≡ length xs → ys ≡ after_hear track_machine t h 0 (take i xs) ++ drop i xs → x ≡ get_or ys i x → ms ≡ each_with after_sensed (take i ns) (sensed_by track_machine t h 0 (take i xs)) ++ drop i ns → n ≡ get_or ms i n → set ms i (after_sensed n (hear_track t (h i) x).1) ≡ each_with after_sensed (take (i + 1) ns) (sensed_by track_machine t h 0 (take (i + 1) xs)) ++ drop (i + 1) ns
-totals_more t h xs ys ns ms i x n lt sizes written is e at =
-    let done : List Sensed = sensed_by track_machine t h 0 (take i xs) in
-    let sized : length done ≡ i = length-sensed_by track_machine t h 0 (take i xs) ∙ length-take-le i xs (omega arith) in
-    rw (sensed_by_more track_machine t h xs ys i x lt written is)
-    (each_with_more after_sensed ns ms done i n (hear_track t (h i) x).1 (omega arith) sized e at)
+-- ---- what was heard
+
+-- of what is kept of a node only the last is told
+abbrev pub kept_last : Heard × Bool → HearOutcome → Heard × Bool
+kept_last before d = heard_tick d
+
+pub all_heard : (ticks : List (Heard × Bool)) (ds : List HearOutcome) → length ds ≡ length ticks → each_with kept_last ticks ds ≡ map heard_tick ds
+all_heard [] [] e = refl
+all_heard [] (d ∷ ds) e = cc
+all_heard (h ∷ ticks) [] e = cc
+all_heard (h ∷ ticks) (d ∷ ds) e = ap (λ (r : List (Heard × Bool)). heard_tick d ∷ r) (all_heard ticks ds cc)
+
+pub heard_set : (ticks : List (Heard × Bool)) (i : ℕ) (h : Heard × Bool) → IsHeard h.0 → AreHeard ticks → AreHeard (set ticks i h)
+heard_set [] i h fine all k = all k
+heard_set (x ∷ ticks) zero h fine all zero = fine
+heard_set (x ∷ ticks) zero h fine all (suc k) = all (suc k)
+heard_set (x ∷ ticks) (suc i) h fine all zero = all 0
+heard_set (x ∷ ticks) (suc i) h fine all (suc k) = heard_set ticks i h fine (λ j. all (suc j)) k
+
+pub nothing_heard : (lines : List NodeLine) → AreHeard (map (λ (n : NodeLine). (Nothing, false)) lines)
+nothing_heard [] k = tt
+nothing_heard (n ∷ lines) zero = tt
+nothing_heard (n ∷ lines) (suc k) = nothing_heard lines k

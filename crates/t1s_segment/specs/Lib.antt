@@ -1,13 +1,2 @@
-pub mod Carrier
-pub mod Receiver
-pub mod Transmitter
-pub mod TransmitterPart
-pub mod Node
-pub mod EventRecords
-pub mod Totals
-pub mod Track
-pub mod World
 pub mod State
 pub mod Stands
-pub mod Beacons
-pub mod Parts

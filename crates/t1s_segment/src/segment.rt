@@ -1,68 +1,34 @@
-ghost use Rattle.std.specs.Prelude.{◌≡◌};
-ghost use Rattle.t1s_segment.specs.State.{settled_after};
-
-use crate::phases::{all_ok, drive_all, hear_all, kept_tick};
-use crate::totals::{NodeTotals, totals_of};
-use crate::track::{Track, position_of};
-use crate::watch::Watch;
+//! `Segment`, which plays the run of a script.
+use crate::engine::Engine;
+use crate::track::first_track;
 use std::alloc::{AllocError, Global};
 use std::marker::Model;
-use t1s_cable::Cable;
+use t1s_line::{NodeTotals, Track, Watch};
 use t1s_script::Script;
 use t1s_symbols::Heard;
 
 /// A segment in its run.
 #[derive(Drop)]
 pub struct Segment {
-    tick: u64,
-    end: u64,
-    settled: Option<u64>,
-    tracks: Vec<Track>,
-    cable: Cable,
-    totals: Vec<NodeTotals>,
+    engine: Engine<Track>,
 }
 
 impl Model for Segment {
-    ghost use Rattle.std.specs.Prelude.{◌≡◌, ◌≤◌, length};
     ghost use Rattle.t1s_segment.specs.State.{SegmentState};
 
     ghost Value = { SegmentState };
 
-    ghost view = { λ g. record {
-      tick = g.tick;
-      end = g.end;
-      settled = g.settled;
-      nodes = g.tracks.items;
-      cable = g.cable;
-      totals = g.totals.items;
-    } };
-
-    ghost invariant = { λ g. record {
-      in_time : g.tick ≤ g.end;
-      few : length g.cable.places ≤ 16;
-      tracks_len : length g.tracks.items ≡ length g.cable.places;
-      totals_len : length g.totals.items ≡ length g.cable.places;
-    } };
-}
-
-/// The first tick in which every status was OK, after one more tick.
-fn settled_after(settled: Option<u64>, tick: u64, ok: bool) -> Option<u64>
-    ensures { result ≡ settled_after settled tick ok }
-{
-    match settled {
-        None if ok => Some(tick),
-        _ => settled,
-    }
+    ghost view = { λ g. g.engine };
 }
 
 impl Segment {
-    ghost use Rattle.std.specs.Prelude.{◌≡◌, ℕ, ◌+◌, ◌<◌, ◌≤◌, ◌==◌, find, IfOk, IfSome, IsTrue, ◌↔◌};
+    ghost use Rattle.std.specs.Prelude.{◌≡◌, ℕ, ◌+◌, ◌<◌, ◌==◌, find, IfOk, IfSome, IsTrue, ◌↔◌};
     ghost use Rattle.t1s_symbols.specs.Ranges.{IsHeard};
     ghost use Rattle.t1s_world.specs.Events.{SeesEvents};
     ghost use Rattle.t1s_script.specs.Script.{IsScript};
     ghost use Rattle.t1s_script.specs.declared.script.Script.{Script};
-    ghost use Rattle.t1s_segment.specs.declared.totals.NodeTotals.{NodeTotals};
-    ghost use Rattle.t1s_segment.specs.World.{events_at, last_heard, settled_below, totals_below};
+    ghost use Rattle.t1s_line.specs.declared.totals.NodeTotals.{NodeTotals};
+    ghost use Rattle.t1s_line.specs.World.{events_at, last_heard, settled_below, totals_below};
     ghost use Rattle.t1s_segment.specs.Stands.{Stands, ticks_left};
 
     /// The segment of a valid script, before its first tick. It takes all memory of the run.
@@ -71,22 +37,12 @@ impl Segment {
         ensures { IfOk result (λ g. Stands s.now 0 g) }
     {
         let lines = s.nodes.as_slice();
-        let mut places = Vec::with_capacity(alloc, lines.len())?;
         let mut tracks = Vec::with_capacity(alloc, lines.len())?;
-        let mut totals = Vec::with_capacity(alloc, lines.len())?;
         for line in lines {
-            places.push(line.place)?;
-            tracks.push(Track::first(s, line))?;
-            totals.push(NodeTotals::new(line.no))?;
+            tracks.push(first_track(alloc, s, line)?)?;
         }
-        let cable = Cable::new(alloc, places.as_slice())?;
         Ok(Segment {
-            tick: 0,
-            end: s.end,
-            settled: None,
-            tracks,
-            cable,
-            totals,
+            engine: Engine::new(alloc, lines, tracks, s.end)?,
         })
     }
 
@@ -94,7 +50,7 @@ impl Segment {
     pub fn now(&self) -> u64
         ensures { (s : Script) (t : ℕ) → Stands s t self.now → result ≡ t }
     {
-        self.tick
+        self.engine.now()
     }
 
     /// Whether every tick of the run has been played.
@@ -102,7 +58,7 @@ impl Segment {
         ensures left { IsTrue result ↔ (ticks_left self.now ≡ 0) }
         ensures at_end { (s : Script) (t : ℕ) → Stands s t self.now → IsTrue result ↔ (t ≡ s.end) }
     {
-        self.tick == self.end
+        self.engine.at_end()
     }
 
     /// Plays the tick `now()`, and tells the watch its events. It takes no memory.
@@ -112,18 +68,7 @@ impl Segment {
         ensures stands { (s : Script) (t : ℕ) → Stands s t self.old → Stands s (t + 1) self.new }
         ensures events { (s : Script) (t : ℕ) → Stands s t self.old → SeesEvents W.sees watch.old (events_at s t) watch.new }
     {
-        let tick = self.tick;
-        self.cable.turn();
-        drive_all(self.tracks.as_mut_slice(), &mut self.cable, tick, watch);
-        let ok = all_ok(self.tracks.as_slice());
-        self.settled = settled_after(self.settled, tick, ok);
-        hear_all(
-            self.tracks.as_mut_slice(),
-            self.totals.as_mut_slice(),
-            &self.cable,
-            tick,
-        );
-        self.tick = tick + 1;
+        self.engine.tick(watch);
     }
 
     /// What the node with this number heard in the last tick that was played, and whether it drove in it:
@@ -133,34 +78,29 @@ impl Segment {
         ensures value { (s : Script) (t : ℕ) → Stands s t self.now → result ≡ last_heard s node t }
         ensures range { (s : Script) (t : ℕ) → Stands s t self.now → IfSome result (λ r. IsHeard r.0) }
     {
-        if self.tick == 0 {
-            return None;
-        }
-        let tracks = self.tracks.as_slice();
-        let j = position_of(tracks, node)?;
-        Some(kept_tick(tracks, &self.cable, self.tick - 1, j))
+        self.engine.heard(node)
     }
 
     /// The first tick in which every node's status was OK. None where there was none so far.
     pub fn settled(&self) -> Option<u64>
         ensures { (s : Script) (t : ℕ) → Stands s t self.now → result ≡ settled_below s t }
     {
-        self.settled
+        self.engine.settled()
     }
 
     /// What was counted at the node with this number so far. None where the script has no such node.
     pub fn totals(&self, node: u8) -> Option<NodeTotals>
         ensures { (s : Script) (t : ℕ) → Stands s t self.now → result ≡ find (λ (n : NodeTotals). n.node == node) (totals_below s t) }
     {
-        totals_of(self.totals.as_slice(), node)
+        self.engine.totals(node)
     }
 }
 
 #[cfg(test)]
 mod tests {
     use super::*;
-    use crate::watch::Event;
     use std::test::Fail;
+    use t1s_line::Event;
     use t1s_script::read_script;
     use t1s_symbols::{Quarter, Symbol};
 
@@ -179,6 +119,7 @@ mod tests {
             match *e {
                 Event::StatusIs { .. } => self.last_status = Some(*e),
                 Event::Beacon { .. } => self.beacons = self.beacons.saturating_add(1),
+                Event::Commit { .. } => {}
                 Event::Quiet { .. } => self.quiets = self.quiets.saturating_add(1),
             }
         }

@@ -1,29 +1,19 @@
-ghost use Rattle.std.specs.Prelude.{◌≡◌, ◌*◌, ◌==◌, IsTrue, position};
+//! The nodes of a script as machines: before its start a node drives nothing and hears nothing.
+ghost use Rattle.std.specs.Prelude.{◌≡◌, ◌≤◌, IfOk};
 ghost use Rattle.t1s_world.specs.Events.{SeesEvents};
-ghost use Rattle.plca_control.specs.Ranges.{IsControlSet};
-ghost use Rattle.t1s_segment.specs.declared.track.Track.{Track};
-ghost use Rattle.t1s_segment.specs.Track.{drive_events, drive_track, hear_track, status_events};
-ghost use Rattle.t1s_segment.specs.World.{set_of, first_track};
+ghost use Rattle.t1s_node.specs.Node.{IsNodeSet};
+ghost use Rattle.t1s_line.specs.Track.{begin_events, drive_events, drive_track, hear_track, status_events};
+ghost use Rattle.t1s_line.specs.World.{first_track, node_set_of};
 
-use crate::node::Node;
-use crate::watch::{Event, Watch};
+use crate::machine::{DriveReport, HearReport, NodeMachine};
 use plca_control::ControlSet;
+use std::alloc::{AllocError, Global};
+use t1s_line::{Event, Track, Watch};
+use t1s_mac::{PickedDraws, SeedDraws};
+use t1s_node::{Node, NodeSet};
+use t1s_ring::{DelayLine, FrameRing};
 use t1s_script::{NodeLine, Script};
-use t1s_symbols::{Heard, Quarter};
-
-/// A node of a segment, with what the last tick left for the events of the next.
-#[derive(Clone, Copy)]
-pub struct Track {
-    /// The node's number.
-    pub no: u8,
-    /// The tick at which it starts.
-    pub start: u64,
-    pub node: Node,
-    /// Whether its status was OK after the last drive phase.
-    pub ok: bool,
-    /// Whether it drove in the last tick.
-    pub driving: bool,
-}
+use t1s_symbols::{Heard, Quarter, Symbol};
 
 /// Tells that a status became OK or ceased to be.
 fn tell_status<W: Watch>(watch: &mut W, tick: u64, node: u8, before: bool, ok: bool)
@@ -34,14 +24,25 @@ fn tell_status<W: Watch>(watch: &mut W, tick: u64, node: u8, before: bool, ok: b
     }
 }
 
+/// Tells that a drive begins with this symbol.
+fn tell_begin<W: Watch>(watch: &mut W, tick: u64, node: u8, symbol: Symbol)
+    ensures { SeesEvents W.sees watch.old (begin_events tick node symbol) watch.new }
+{
+    match symbol {
+        Symbol::N => watch.event(&Event::Beacon { tick, node }),
+        Symbol::J => watch.event(&Event::Commit { tick, node }),
+        _ => {}
+    }
+}
+
 /// Tells that a drive begins or has ended.
 fn tell_drive<W: Watch>(watch: &mut W, tick: u64, node: u8, before: bool, quarter: Option<Quarter>)
     ensures { SeesEvents W.sees watch.old (drive_events tick node before quarter) watch.new }
 {
     match quarter {
-        Some(_) => {
+        Some(quarter) => {
             if !before {
-                watch.event(&Event::Beacon { tick, node });
+                tell_begin(watch, tick, node, quarter.sym);
             }
         }
         None => {
@@ -52,61 +53,79 @@ fn tell_drive<W: Watch>(watch: &mut W, tick: u64, node: u8, before: bool, quarte
     }
 }
 
-impl Track {
-    /// A node of a script before its first tick.
-    pub fn first(script: &Script, line: &NodeLine) -> Track
-        requires { IsControlSet (set_of script.now line.now) }
-        ensures { result ≡ first_track script.now line.now }
-    {
-        let set = ControlSet {
+/// A node of a script before its first tick, with its ring and its delay line.
+pub fn first_track(alloc: Global, script: &Script, line: &NodeLine) -> Result<Track, AllocError>
+    requires set { IsNodeSet (node_set_of script.now line.now) }
+    requires room_low { 1 ≤ script.now.room }
+    requires room_high { script.now.room ≤ 64 }
+    ensures { IfOk result (λ track. track ≡ first_track script.now line.now) }
+{
+    let set = NodeSet {
+        control: ControlSet {
             id: line.id,
             count: script.count,
             to: line.to,
             burst: script.burst,
-        };
-        Track {
-            no: line.no,
-            start: line.start,
-            node: Node::start(set, script.rise, script.fall),
-            ok: false,
-            driving: false,
-        }
-    }
+        },
+        rise: script.rise,
+        fall: script.fall,
+    };
+    let ring = FrameRing::with_room(alloc, script.room)?;
+    let delay = DelayLine::new(alloc)?;
+    let draws = PickedDraws::Seed(SeedDraws::new(script.seed, line.no));
+    Ok(Track {
+        no: line.no,
+        start: line.start,
+        node: Node::new(set, ring, delay, draws),
+        ok: false,
+        driving: false,
+    })
+}
 
-    /// The drive phase of a tick. What happens is told, and what is driven is answered.
-    #[tactic(auto, unfolding(crate::specs::Track::drive_track))]
-    pub fn drive<W: Watch>(&mut self, tick: u64, watch: &mut W) -> Option<Quarter>
-        ensures track { self.new ≡ (drive_track tick self.old).0 }
-        ensures quarter { result ≡ (drive_track tick self.old).1.quarter }
-        ensures events { SeesEvents W.sees watch.old (drive_track tick self.old).1.events watch.new }
-    {
+/// What comes of the drive phase of a node that has not started.
+const NO_DRIVE: DriveReport = DriveReport {
+    quarter: None,
+    ok: false,
+};
+
+/// What comes of its hear phase.
+const NO_HEARING: HearReport = HearReport {
+    heard: Heard::Nothing,
+    drove: false,
+    clash: false,
+};
+
+impl NodeMachine for Track {
+    ghost drive_phase = { drive_track };
+
+    ghost hear_phase = { hear_track };
+
+    #[tactic(auto, unfolding(t1s_line::specs::Track::drive_track))]
+    fn drive<W: Watch>(&mut self, tick: u64, watch: &mut W) -> DriveReport {
         if tick < self.start {
-            return None;
+            return NO_DRIVE;
         }
         let driven = self.node.drive();
         tell_status(watch, tick, self.no, self.ok, driven.ok);
         tell_drive(watch, tick, self.no, self.driving, driven.quarter);
         self.ok = driven.ok;
         self.driving = driven.quarter.is_some();
-        driven.quarter
-    }
-
-    /// The hear phase of a tick. It answers whether there was a clash.
-    #[tactic(auto, unfolding(crate::specs::Track::hear_track))]
-    pub fn hear(&mut self, tick: u64, heard: Heard) -> bool
-        ensures track { self.new ≡ (hear_track tick heard self.old).0 }
-        ensures clash { result ≡ (hear_track tick heard self.old).1.clash }
-    {
-        if tick < self.start {
-            return false;
+        DriveReport {
+            quarter: driven.quarter,
+            ok: driven.ok,
         }
-        self.node.hear(heard)
     }
-}
 
-/// The position of the node with this number, if there is one.
-pub fn position_of(tracks: &[Track], node: u8) -> Option<usize>
-    ensures { result ≡ position (λ (k : Track). k.no == node) tracks.now }
-{
-    tracks.iter().position(|track| track.no == node)
+    #[tactic(auto, unfolding(t1s_line::specs::Track::hear_track))]
+    fn hear(&mut self, tick: u64, heard: Heard) -> HearReport {
+        if tick < self.start {
+            return NO_HEARING;
+        }
+        let clash = self.node.hear(heard).clash;
+        HearReport {
+            heard,
+            drove: self.driving,
+            clash,
+        }
+    }
 }

@@ -1,5 +1,5 @@
 -- What a node hears: one more node, two pasts that agree, who arrives alone, and its range.
-use Rattle.std.proofs.Common.{◌≡◌, ℕ, suc, ◌+◌, ◌<◌, ◌≤◌, List, [], ◌∷◌, ◌++◌, length, get_or, take, Option, None, Some, Bool, true, false, cond, eqb, refl, sym, ◌∙◌, ap, arith, rules, add-zero, append_assoc, inl, inr}
+use Rattle.std.proofs.Common.{◌≡◌, ℕ, zero, suc, ◌+◌, ◌<◌, ◌≤◌, List, [], ◌∷◌, ◌++◌, length, get_or, take, Option, None, Some, Bool, true, false, cond, eqb, refl, sym, ◌∙◌, ap, arith, rules, add-zero, append_assoc, inl, inr}
 use Rattle.std.proofs.lemmas.List.{append-nil, take_more, length-take-le}
 use Rattle.std.proofs.lemmas.Bool.{cases_eq}
 use Rattle.std.proofs.lemmas.Bool.Decides.{nat_tests}
@@ -9,7 +9,7 @@ use Rattle.std.specs.Prelude.{IfSome}
 use Rattle.t1s_symbols.specs.declared.Heard.TheVariants.{Nothing}
 use Rattle.t1s_symbols.specs.declared.Quarter.{Quarter}
 use Rattle.t1s_symbols.specs.Ranges.{IsQuarter, IsHeard}
-use Rattle.t1s_world.specs.Hearing.{heard_of, heard_with, arriving, arriving_from, heard}
+use Rattle.t1s_world.specs.Hearing.{farthest, span, heard_of, heard_with, arriving, arriving_from, heard}
 
 -- one more quarter, or none
 pub heard_of-append : (qs : List Quarter) (q : Option Quarter) → heard_of (qs ++ option_to_list q) ≡ heard_with (heard_of qs) q
@@ -35,21 +35,32 @@ module _ (at : ℕ → ℕ → Option Quarter) (j x : ℕ) where
       rw (take_more ys i 0 lt, arriving_from-append 0 (take i ys) (get_or ys i 0), short)
       (heard_of-append (arriving_from at j x 0 (take i ys)) (arriving at j x i (get_or ys i 0)))
 
+-- no place is further from another than the span
+farthest-within : (x : ℕ) (ys : List ℕ) (k : ℕ) → k < length ys → abs_diff x (get_or ys k 0) ≤ farthest x ys
+farthest-within x [] k lt = absurd (omega arith)
+farthest-within x (y ∷ ys) zero lt = omega arith
+farthest-within x (y ∷ ys) (suc k) lt = omega (arith, farthest-within x ys k (omega arith))
+
+pub span-within : (places : List ℕ) (i j : ℕ) → i < length places → j < length places → abs_diff (get_or places i 0) (get_or places j 0) ≤ span places
+span-within [] i j hi hj = absurd (omega arith)
+span-within (x ∷ xs) zero zero hi hj = omega arith
+span-within (x ∷ xs) zero (suc j) hi hj = omega (arith, farthest-within x xs j (omega arith))
+span-within (x ∷ xs) (suc i) zero hi hj = omega (arith, farthest-within x xs i (omega arith))
+span-within (x ∷ xs) (suc i) (suc j) hi hj = omega (arith, span-within xs i j (omega arith) (omega arith))
+
 -- two pasts that agree as far back as any node is away are heard alike
-module _ (room : ℕ) (at bt : ℕ → ℕ → Option Quarter) where
-  arriving_from_same : (n : ℕ) → ((i d : ℕ) → i < n → d < room → at i d ≡ bt i d) → (j x : ℕ) → x < room → (s : ℕ) (ys : List ℕ) → s + length ys ≤ n → ((k : ℕ) → get_or ys k 0 < room) → arriving_from at j x s ys ≡ arriving_from bt j x s ys
-  arriving_from_same n same j x hx s [] fits near = refl
-  arriving_from_same n same j x hx s (y ∷ ys) fits near =
-      let hy : y < room = near 0 in
-      let far : abs_diff x y < room = omega arith in
-      let first : at s (abs_diff x y) ≡ bt s (abs_diff x y) = same s (abs_diff x y) (omega arith) far in
-      let rest = arriving_from_same n same j x hx (s + 1) ys (omega arith) (λ k. near (suc k)) in
+module _ (reach : ℕ) (at bt : ℕ → ℕ → Option Quarter) where
+  arriving_from_same : (n : ℕ) → ((i d : ℕ) → i < n → d ≤ reach → at i d ≡ bt i d) → (j x : ℕ) (s : ℕ) (ys : List ℕ) → s + length ys ≤ n → ((k : ℕ) → k < length ys → abs_diff x (get_or ys k 0) ≤ reach) → arriving_from at j x s ys ≡ arriving_from bt j x s ys
+  arriving_from_same n same j x s [] fits near = refl
+  arriving_from_same n same j x s (y ∷ ys) fits near =
+      let first : at s (abs_diff x y) ≡ bt s (abs_diff x y) = same s (abs_diff x y) (omega arith) (near 0 (omega arith)) in
+      let rest = arriving_from_same n same j x (s + 1) ys (omega arith) (λ k lt. near (suc k) (omega arith)) in
       rw (first, rest) refl
 
-  pub heard_same : (places : List ℕ) → ((i d : ℕ) → i < length places → d < room → at i d ≡ bt i d) → ((k : ℕ) → get_or places k 0 < room) → (j : ℕ) → heard at places j ≡ heard bt places j
+  pub heard_same : (places : List ℕ) (j : ℕ) → ((i d : ℕ) → i < length places → d ≤ reach → at i d ≡ bt i d) → ((k : ℕ) → k < length places → abs_diff (get_or places j 0) (get_or places k 0) ≤ reach) → heard at places j ≡ heard bt places j
   unfolding heard
-  heard_same places same near j =
-      ap heard_of (arriving_from_same (length places) same j (get_or places j 0) (near j) 0 places (omega arith) near)
+  heard_same places j same near =
+      ap heard_of (arriving_from_same (length places) same j (get_or places j 0) 0 places (omega arith) near)
 
 -- where no other node drove, a node hears nothing
 arriving_from_none : (at : ℕ → ℕ → Option Quarter) (j x s : ℕ) (ys : List ℕ) → ((i d : ℕ) → i < s + length ys → (i ≡ j → ⊥) → at i d ≡ None) → arriving_from at j x s ys ≡ []

@@ -1,5 +1,5 @@
 -- What a node hears on the cable: the quarter of each other node, as late as that node is far away.
-use Rattle.std.specs.Prelude.{ℕ, ◌+◌, List, [], ◌∷◌, ◌++◌, Option, None, Some, get_or, ◌==◌, if◌then◌else◌}
+use Rattle.std.specs.Prelude.{ℕ, ◌+◌, max, List, [], ◌∷◌, ◌++◌, Option, None, Some, get_or, ◌==◌, if◌then◌else◌}
 use Rattle.std.specs.Int.{abs_diff}
 use Rattle.std.specs.Option.{option_to_list}
 use Rattle.t1s_symbols.specs.declared.Heard.{Heard}
@@ -9,6 +9,16 @@ use Rattle.t1s_symbols.specs.declared.Quarter.{Quarter}
 -- the distance of two places, in whole bit times
 abbrev pub distance : ℕ → ℕ → ℕ
 distance x y = abs_diff x y
+
+-- the greatest distance of place x from one of these places; 0 where there is none
+abbrev pub farthest : ℕ → List ℕ → ℕ
+farthest x [] = 0
+farthest x (y ∷ ys) = max (distance x y) (farthest x ys)
+
+-- the greatest distance of two of these places; 0 where there are fewer than two
+abbrev pub span : List ℕ → ℕ
+span [] = 0
+span (x ∷ xs) = max (farthest x xs) (span xs)
 
 -- what is heard where these quarters arrive in one tick: none is Nothing, one is One of it, more are Many
 abbrev pub heard_of : List Quarter → Heard

@@ -12,8 +12,8 @@ loop-i-preserved c =
     rw (heard_of-take_more at c.args.j (get_or places c.args.j 0) places c.loop-i.i (omega arith), ← c.loop-i.invariant, ← c.arriving.ensures)
     c.heard_with-heard.ensures
 
-pub returns-clause-value : goal.returns-clause-value
+pub returns : goal.returns
 unfolding heard
-returns-clause-value c =
+returns c =
     let all : length c.args.places.now ≤ c.loop-i.i = omega arith in
     rw take_all at c.loop-i.invariant

@@ -2,7 +2,7 @@ use Rattle.std.proofs.Common.{◌≡◌, ◌+◌, ◌⊎◌, true, [], ◌∷◌
 use Rattle.std.specs.Option.{option_to_list}
 use Rattle.t1s_capture.specs.Captures.{header}
 use Rattle.t1s_capture.specs.WriterTable.{WriterState}
-use Rattle.t1s_segment.specs.World.{heard_by}
+use Rattle.t1s_line.specs.World.{heard_by}
 use Rattle.t1s_cli.proofs.CaptureSteps.{captured_none, captured_tick, captured_no_tick, captured_whole}
 use Rattle.t1s_cli.proofs.capture_command.write_capture.Goals as goal
 

@@ -3,7 +3,7 @@ use Rattle.std.specs.List.{slice_get}
 use Rattle.std.proofs.lemmas.List.{get_or_past, length-map}
 use Rattle.std.proofs.lemmas.Option.{slice_get_cases}
 use Rattle.t1s_script.specs.declared.script.Script.{Script}
-use Rattle.t1s_segment.specs.World.{totals_below}
+use Rattle.t1s_line.specs.World.{totals_below}
 use Rattle.t1s_report.specs.SummaryLines.{node_line, summary_lines_below}
 use Rattle.t1s_report.proofs.summary_lines.summary_line.Goals as goal
 

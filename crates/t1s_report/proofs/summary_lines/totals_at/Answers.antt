@@ -1,7 +1,7 @@
 use Rattle.std.proofs.Common.{◌≡◌, ◌≤◌, length, sym, ap, ◌∙◌, arith}
 use Rattle.std.proofs.lemmas.Option.{slice_get_past}
-use Rattle.t1s_segment.specs.declared.totals.NodeTotals.{NodeTotals}
-use Rattle.t1s_segment.specs.World.{totals_below}
+use Rattle.t1s_line.specs.declared.totals.NodeTotals.{NodeTotals}
+use Rattle.t1s_line.specs.World.{totals_below}
 use Rattle.t1s_report.proofs.Ascending.{nodes_below, none_below, found_after, count_found, count_missed, totals_ascend, totals_all_below}
 use Rattle.t1s_report.proofs.summary_lines.totals_at.Goals as goal
 use Rattle.t1s_report.proofs.summary_lines.totals_at.Goals.{in-Some+else-nodes-k, in_default}

@@ -1,7 +1,7 @@
 use Rattle.std.proofs.Common.{◌≡◌, ◌≤◌, ℕ, length}
 use Rattle.t1s_script.specs.declared.script.Script.{Script}
 use Rattle.t1s_segment.specs.Stands.{Stands}
-use Rattle.t1s_segment.specs.World.{totals_below}
+use Rattle.t1s_line.specs.World.{totals_below}
 use Rattle.t1s_report.proofs.Ascending.{nodes_below}
 use Rattle.t1s_report.proofs.summary_lines.totals_at.Given as goal
 

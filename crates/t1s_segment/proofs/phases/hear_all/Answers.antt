@@ -1,33 +1,59 @@
-use Rattle.std.proofs.Common.{arith, get_or, length, ◌<◌}
-use Rattle.std.proofs.lemmas.List.{get_or_default}
+use Rattle.std.proofs.Common.{arith, get_or, length, ◌<◌, ◌≤◌, ◌∙◌, Bool, false}
+use Rattle.std.proofs.lemmas.List.{get_or_default, take_all, drop_all, append-nil}
+use Rattle.t1s_symbols.specs.declared.Heard.{Heard}
+use Rattle.t1s_symbols.specs.declared.Heard.TheVariants.{Nothing}
 use Rattle.t1s_world.specs.Hearing.{heard}
-use Rattle.t1s_world.specs.World.{at_depth}
-use Rattle.t1s_world.proofs.WorldLemmas.{after_hear_more}
-use Rattle.t1s_segment.specs.declared.totals.NodeTotals.{NodeTotals}
-use Rattle.t1s_segment.specs.Totals.{no_totals}
-use Rattle.t1s_segment.specs.Track.{track_machine}
-use Rattle.t1s_segment.proofs.PhaseSteps.{totals_more}
+use Rattle.t1s_world.specs.World.{at_depth, hear_outcomes}
+use Rattle.t1s_world.proofs.WorldLemmas.{after_hear_more, length-hear_outcomes}
+use Rattle.t1s_line.specs.declared.totals.NodeTotals.{NodeTotals}
+use Rattle.t1s_line.specs.Outcomes.{machine_by}
+use Rattle.t1s_line.specs.Totals.{no_totals}
+use Rattle.t1s_line.specs.Runs.{after_outcome}
+use Rattle.t1s_segment.proofs.PhaseSteps.{each_more, kept_last, all_heard, heard_set}
 use Rattle.t1s_segment.proofs.phases.hear_all.Goals as goal
 
 pub loop-j-preserved : goal.loop-j-preserved
-loop-j-preserved c =
+loop-j-preserved g c =
+    let m = machine_by g.N.NodeMachine.drive_phase g.N.NodeMachine.hear_phase in
     let t = c.args.tick in
-    let xs = c.args.tracks.now in
+    let xs = c.args.nodes.now in
     let j = c.loop-j.j in
-    let x = c.index-tracks-j.result in
+    let x = c.index-nodes-j.result in
     let lt : j < length xs = omega arith in
-    let is = c.index-tracks-j.is in
+    let is = c.index-nodes-j.is in
     let before = c.loop-j.invariant in
+    let hears = c.hear-report.ensures in
     let ms = c.loop-j.totals in
     let n : NodeTotals = get_or ms j (no_totals 0) in
     let at = get_or_default ms j (no_totals 0) n (omega arith) in
+    let ls = c.loop-j.last in
+    let silence : Heard × Bool = (Nothing, false) in
+    let l : Heard × Bool = get_or ls j silence in
+    let kept = get_or_default ls j silence l (omega arith) in
     record {
-      tracks = λ rows stands.
+      nodes = λ rows stands.
           let h = heard (at_depth rows) c.args.cable.now.places in
-          rw (c.hear-clash.ensures.track, ← is, c.heard-heard.ensures rows stands)
-          (after_hear_more track_machine t h xs c.loop-j.tracks j x lt (before.tracks rows stands) is);
+          rw (hears.node, ← is, c.heard.ensures.value rows stands)
+          (after_hear_more m t h xs c.loop-j.nodes j x lt (before.nodes rows stands) is);
       totals = λ rows stands.
           let h = heard (at_depth rows) c.args.cable.now.places in
-          rw (c.after_clash.ensures, c.hear-clash.ensures.clash, ← is, c.heard-heard.ensures rows stands)
-          (totals_more t h xs c.loop-j.tracks c.args.totals.now ms j x n lt (omega arith) (before.tracks rows stands) is (before.totals rows stands) at);
+          rw (c.after_clash.ensures, hears.clash, ← is, c.heard.ensures.value rows stands)
+          (each_more m t xs c.loop-j.nodes j x lt h (before.nodes rows stands) is after_outcome c.args.totals.now ms n (omega arith) (before.totals rows stands) at);
+      last = λ rows stands.
+          let h = heard (at_depth rows) c.args.cable.now.places in
+          rw (hears.heard, hears.drove, ← is, c.heard.ensures.value rows stands)
+          (each_more m t xs c.loop-j.nodes j x lt h (before.nodes rows stands) is kept_last c.args.last.now ls l (omega arith) (before.last rows stands) kept);
+      in_range = heard_set ls j (c.hear-report.result.heard, c.hear-report.result.drove) hears.range before.in_range;
     }
+
+pub returns-clause-last : goal.returns-clause-last
+returns-clause-last g c rows stands =
+    let m = machine_by g.N.NodeMachine.drive_phase g.N.NodeMachine.hear_phase in
+    let h = heard (at_depth rows) c.args.cable.now.places in
+    let xs = c.args.nodes.now in
+    let ticks = c.args.last.now in
+    let ds = hear_outcomes m c.args.tick h 0 xs in
+    let all : length xs ≤ c.loop-j.j = omega arith in
+    let whole : length ticks ≤ c.loop-j.j = omega arith in
+    rw (take_all c.loop-j.j xs all, take_all c.loop-j.j ticks whole, drop_all c.loop-j.j ticks whole, append-nil) at (c.loop-j.invariant.last rows stands)
+    ∙ all_heard ticks ds (omega (arith, length-hear_outcomes m c.args.tick h 0 xs))

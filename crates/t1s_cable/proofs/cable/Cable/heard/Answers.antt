@@ -1,10 +1,18 @@
 use Rattle.std.proofs.Common.{◌∙◌}
+use Rattle.t1s_world.proofs.HearingLemmas.{heard_in_range}
+use Rattle.t1s_cable.specs.Rings.{put_at}
 use Rattle.t1s_cable.proofs.Histories.{heard_is}
 use Rattle.t1s_cable.proofs.cable.Cable.heard.Goals as goal
 
-pub returns : goal.returns
-returns c rows stands =
+pub returns-clause-value : goal.returns-clause-value
+returns-clause-value c rows stands =
     let before = rw (← c.self.view_is) at stands in
-    let near = rw c.as_slice.ensures.value at c.hear_at.ensures.near in
-    let hears = rw (c.as_slice.ensures.value, c.as_slice-2.ensures.value, c.as_slice-3.ensures.value, c.from.ensures) at c.hear_at.ensures.value in
-    rw (← c.self.view_is) (hears ∙ heard_is _ c.self.invariant.rings_len near rows before c.args.node)
+    let there = rw (← c.self.view_is) at c.requires in
+    let hears = rw (c.as_slice.ensures.value, c.as_slice-2.ensures.value, c.as_slice-3.ensures.value, c.from.ensures) at c.hear_at.ensures in
+    rw (← c.self.view_is) (hears ∙ heard_is _ c.self.invariant.rings_len rows before c.args.node there)
+
+pub returns-clause-range : goal.returns-clause-range
+returns-clause-range c =
+    let inside = c.self.inside in
+    let hears = rw (c.as_slice.ensures.value, c.as_slice-2.ensures.value, c.as_slice-3.ensures.value, c.from.ensures) at c.hear_at.ensures in
+    rw hears (heard_in_range (put_at inside.row.items inside.rings.items) c.self.invariant.quarters c.args.node inside.places.items)

@@ -1,9 +1,22 @@
-use Rattle.std.proofs.Common.{arith, ◌∙◌}
+use Rattle.std.proofs.Common.{arith, length, refl, rules, ◌∙◌}
 use Rattle.std.specs.Vec.{with_items}
 use Rattle.std.proofs.lemmas.List.{with_items_is}
 use Rattle.t1s_cable.specs.State.{CableState}
-use Rattle.t1s_cable.proofs.Histories.{stands_next}
+use Rattle.t1s_cable.proofs.Histories.{quarters-turn, stands_next}
 use Rattle.t1s_cable.proofs.cable.Cable.turn.Goals as goal
+
+pub invariant_of-self : goal.invariant_of-self
+invariant_of-self c =
+    let old = c.self.inside in
+    let row = with_items_is old.row c.end_tick.new.row (omega arith) in
+    let rings = with_items_is old.rings c.end_tick.new.rings (omega arith) in
+    let rowed = rw c.as_mut_slice.ensures.value at c.end_tick.ensures.row in
+    let kept = rw (c.as_mut_slice.ensures.value, c.as_mut_slice-2.ensures.value) at c.end_tick.ensures.rings in
+    record {
+      row_len = search rules;
+      rings_len = search rules;
+      quarters = rw (row, rings, rowed, kept) (quarters-turn (length old.row.items) old.row.items old.rings.items c.self.invariant.quarters);
+    }
 
 pub returns-clause-row : goal.returns-clause-row
 returns-clause-row c =
@@ -20,4 +33,4 @@ returns-clause-stands c rows stands =
     let was : CableState = record { places = old.places.items; row = old.row.items; rings = old.rings.items } in
     let is : CableState = record { places = old.places.items; row = (with_items old.row c.end_tick.new.row).items; rings = (with_items old.rings c.end_tick.new.rings).items } in
     rw (← c.self.view_is)
-    (stands_next was is (omega arith) row (rings ∙ kept) rows before)
+    (stands_next was is (omega arith) refl row (rings ∙ kept) rows before)

@@ -1,0 +1,181 @@
+//! `Engine`, which plays the nodes of a segment, whatever machine they are.
+ghost use Rattle.std.specs.Prelude.{◌≡◌};
+ghost use Rattle.t1s_segment.specs.State.{settled_after};
+
+use crate::machine::NodeMachine;
+use crate::phases::{drive_all, hear_all};
+use crate::totals::{no_totals, position_of, totals_of};
+use std::alloc::{AllocError, Global};
+use std::marker::Model;
+use t1s_cable::Cable;
+use t1s_line::{NodeTotals, Watch};
+use t1s_script::NodeLine;
+use t1s_symbols::Heard;
+
+/// Nodes over one cable, in their run.
+#[derive(Drop)]
+pub struct Engine<N> {
+    tick: u64,
+    end: u64,
+    settled: Option<u64>,
+    nodes: Vec<N>,
+    cable: Cable,
+    totals: Vec<NodeTotals>,
+    heard: Vec<(Heard, bool)>,
+}
+
+impl<N> Model for Engine<N> {
+    ghost use Rattle.std.specs.Prelude.{◌≡◌, ◌≤◌, length};
+    ghost use Rattle.t1s_segment.specs.State.{EngineState, AreHeard};
+
+    ghost Value = { EngineState N };
+
+    ghost view = { λ g. record {
+      tick = g.tick;
+      end = g.end;
+      settled = g.settled;
+      nodes = g.nodes.items;
+      cable = g.cable;
+      totals = g.totals.items;
+      heard = g.heard.items;
+    } };
+
+    ghost invariant = { λ g. record {
+      in_time : g.tick ≤ g.end;
+      few : length g.cable.places ≤ 16;
+      nodes_len : length g.nodes.items ≡ length g.cable.places;
+      totals_len : length g.totals.items ≡ length g.cable.places;
+      heard_len : length g.heard.items ≡ length g.cable.places;
+      heard_in_range : AreHeard g.heard.items;
+    } };
+}
+
+/// The first tick in which every status was OK, after one more tick.
+fn settled_after(settled: Option<u64>, tick: u64, ok: bool) -> Option<u64>
+    ensures { result ≡ settled_after settled tick ok }
+{
+    match settled {
+        None if ok => Some(tick),
+        _ => settled,
+    }
+}
+
+impl<N: NodeMachine + Drop> Engine<N> {
+    ghost use Rattle.std.specs.Prelude.{◌≡◌, ℕ, ◌+◌, ◌<◌, ◌≤◌, ◌==◌, List, length, find, IfOk, IfSome, IsTrue, ◌↔◌};
+    ghost use Rattle.t1s_symbols.specs.Ranges.{IsHeard};
+    ghost use Rattle.t1s_world.specs.Events.{SeesEvents};
+    ghost use Rattle.t1s_world.specs.World.{past};
+    ghost use Rattle.t1s_script.specs.declared.script.NodeLine.{NodeLine};
+    ghost use Rattle.t1s_line.specs.declared.totals.NodeTotals.{NodeTotals};
+    ghost use Rattle.t1s_line.specs.Outcomes.{machine_by};
+    ghost use Rattle.t1s_line.specs.Runs.{events_of, last_heard_in, places_in, settled_in, totals_in};
+    ghost use Rattle.t1s_segment.specs.Stands.{Plays, ticks_left};
+
+    /// The run of these nodes, which stand in these lines of a script one by one, before its first tick. It takes all
+    /// other memory of the run.
+    pub fn new(
+        alloc: Global,
+        lines: &[NodeLine],
+        nodes: Vec<N>,
+        end: u64,
+    ) -> Result<Engine<N>, AllocError>
+        requires some { 1 ≤ length lines.now }
+        requires few { length lines.now ≤ 16 }
+        requires each { length nodes.items ≡ length lines.now }
+        ensures { IfOk result (λ g. Plays (machine_by N.drive_phase N.hear_phase) lines.now nodes.items end 0 g) }
+    {
+        let mut places = Vec::with_capacity(alloc, lines.len())?;
+        let mut totals = Vec::with_capacity(alloc, lines.len())?;
+        let mut heard = Vec::with_capacity(alloc, lines.len())?;
+        for line in lines {
+            places.push(line.place)?;
+            totals.push(no_totals(line.no))?;
+            heard.push((Heard::Nothing, false))?;
+        }
+        let cable = Cable::new(alloc, places.as_slice())?;
+        Ok(Engine {
+            tick: 0,
+            end,
+            settled: None,
+            nodes,
+            cable,
+            totals,
+            heard,
+        })
+    }
+
+    /// The tick that is played next.
+    pub fn now(&self) -> u64
+        ensures { result ≡ self.now.tick }
+    {
+        self.tick
+    }
+
+    /// Whether every tick of the run has been played.
+    pub fn at_end(&self) -> bool
+        ensures { IsTrue result ↔ (ticks_left self.now ≡ 0) }
+    {
+        self.tick == self.end
+    }
+
+    /// Plays the tick `now()`, and tells the watch its events: all nodes drive, what they drive is put on the cable, and
+    /// all nodes hear. It takes no memory.
+    pub fn tick<W: Watch>(&mut self, watch: &mut W)
+        requires { 0 < ticks_left self.old }
+        ensures left { ticks_left self.new + 1 ≡ ticks_left self.old }
+        ensures plays { (lines : List NodeLine) (first : List N) (end t : ℕ) →
+            Plays (machine_by N.drive_phase N.hear_phase) lines first end t self.old →
+            Plays (machine_by N.drive_phase N.hear_phase) lines first end (t + 1) self.new }
+        ensures events { (lines : List NodeLine) (first : List N) (end t : ℕ) →
+            Plays (machine_by N.drive_phase N.hear_phase) lines first end t self.old →
+            SeesEvents W.sees watch.old (events_of (machine_by N.drive_phase N.hear_phase) t
+            (past (machine_by N.drive_phase N.hear_phase) (places_in lines) first t).nodes) watch.new }
+    {
+        let tick = self.tick;
+        self.cable.turn();
+        let ok = drive_all(
+            self.nodes.as_mut_slice(),
+            &mut self.cable,
+            tick,
+            watch,
+        );
+        self.settled = settled_after(self.settled, tick, ok);
+        hear_all(
+            self.nodes.as_mut_slice(),
+            self.totals.as_mut_slice(),
+            self.heard.as_mut_slice(),
+            &self.cable,
+            tick,
+        );
+        self.tick = tick + 1;
+    }
+
+    /// What the node with this number heard in the last tick that was played, and whether it drove in it. None where
+    /// there is no such node, and where no tick was played.
+    pub fn heard(&self, node: u8) -> Option<(Heard, bool)>
+        ensures value { (lines : List NodeLine) (first : List N) (end t : ℕ) →
+            Plays (machine_by N.drive_phase N.hear_phase) lines first end t self.now →
+            result ≡ last_heard_in (machine_by N.drive_phase N.hear_phase) lines first node t }
+        ensures range { IfSome result (λ r. IsHeard r.0) }
+    {
+        if self.tick == 0 {
+            return None;
+        }
+        let j = position_of(self.totals.as_slice(), node)?;
+        Some(self.heard[j])
+    }
+
+    /// The first tick in which every node's status was OK. None where there was none so far.
+    pub fn settled(&self) -> Option<u64>
+        ensures { result ≡ self.now.settled }
+    {
+        self.settled
+    }
+
+    /// What was counted at the node with this number so far. None where there is no such node.
+    pub fn totals(&self, node: u8) -> Option<NodeTotals>
+        ensures { result ≡ find (λ (n : NodeTotals). n.node == node) self.now.totals }
+    {
+        totals_of(self.totals.as_slice(), node)
+    }
+}

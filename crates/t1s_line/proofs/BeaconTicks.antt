@@ -152,12 +152,15 @@ module _ (s : Script) (z : ℕ) (line : NodeLine) (valid : IsScript s) (one : Is
   -- what the node keeps at first
   first_waits : AtTick s.count line.to s.rise s.fall 0 (first_track s line).node
   first_waits =
-      inl (omega arith, record {
-        set = record { id = one.zero_id; count = refl; to = refl; rise = refl; fall = refl };
-        state = first_recovers line.id one.zero_id;
-        quiet = record { past = start_history; tx = refl; frameless = first_frameless s line };
-        carrier = refl;
-      })
+      inl (
+        omega arith,
+        record {
+          set = record { id = one.zero_id; count = refl; to = refl; rise = refl; fall = refl };
+          state = first_recovers line.id one.zero_id;
+          quiet = record { past = start_history; tx = refl; frameless = first_frameless s line };
+          carrier = refl;
+        },
+      )
 
   -- and before tick t
   kept_at : (t : ℕ) → (k : Track) × (slice_get (world s t).nodes z ≡ Some k) × (k.start ≡ 0) × AtTick s.count line.to s.rise s.fall t k.node

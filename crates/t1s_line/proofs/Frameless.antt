@@ -145,7 +145,7 @@ module _ (s : LineReading) (c : Core PickedDraws) where
       let sends : tx_turn (control_turn s c).1.cmd c ≡ turn_to x [] = rw (shown.ready, shown.begun, shown.ended, shown.bad, h.line) turn in
       let path : StaysIdle (path_turn s c (control_turn s c).1 (mac_turn picked_answer picked_after s c).1 (tx_turn (control_turn s c).1.cmd c).line) =
       path_rests c.path (control_turn s c).1.active (control_turn s c).1.own (is_closed (report_of c.tx)) s.crs s.class s.hit (mac_turn picked_answer picked_after s c).1.out (tx_turn (control_turn s c).1.cmd c).line
-          h.path (ap (λ (r : Row). r.out) rests) (ap (λ (t : TxTurn). t.line) sends) in
+      h.path (ap (λ (r : Row). r.out) rests) (ap (λ (t : TxTurn). t.line) sends) in
       record {
         control = rw (shown.ready, shown.begun) refl;
         tx = ap (λ (t : TxTurn). t.state) sends;

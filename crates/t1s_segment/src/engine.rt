@@ -133,12 +133,7 @@ impl<N: NodeMachine + Drop> Engine<N> {
     {
         let tick = self.tick;
         self.cable.turn();
-        let ok = drive_all(
-            self.nodes.as_mut_slice(),
-            &mut self.cable,
-            tick,
-            watch,
-        );
+        let ok = drive_all(self.nodes.as_mut_slice(), &mut self.cable, tick, watch);
         self.settled = settled_after(self.settled, tick, ok);
         hear_all(
             self.nodes.as_mut_slice(),

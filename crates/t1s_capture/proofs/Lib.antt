@@ -11,6 +11,7 @@ pub mod Counted
 pub mod States
 pub mod ItemOctets
 pub mod Steps
+pub mod Feeding
 pub mod Rows
 pub mod Cuts
 pub mod CutItems

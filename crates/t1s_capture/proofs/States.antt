@@ -181,7 +181,7 @@ blur_ended taken items node n b count = by_test (needs_blur b && (n == 0))
     by_test : (p : Bool) →
         (if p then refuses (progress_at taken items (in_blur b count)) CountZero
         else yields (TornItem (ticks_of items) (ticks_of items + (4 * symbol_count b + n)) (symbol_count b) n) (progress_at taken items (in_blur b count))
-        (with_torn (with_ticks (counts_at items (in_blur b count)) (4 * symbol_count b + n))) (reader_at items (in_blur b count)) AfterTorn)
+        (with_torn (with_ticks (counts_at items (in_blur b count)) (4 * symbol_count b + n))) AfterTorn)
         ≡ answer taken (if p then fails CountZero else next_is (with_items node (items ++ Torn b n ∷ []) after_torn))
         (if p then None else Some (TornItem (ticks_of items) (ticks_of items + (4 * symbol_count b + n)) (symbol_count b) n))
     by_test true = refl
@@ -260,13 +260,13 @@ burst_ended taken items node b tail stage e none nibbles is =
     (same_state (taken + 1)
     (with_whole (pieces_at (phase_of b)) (lead_at (phase_of b)) (with_ticks (counts_at items (in_burst b)) (4 * symbol_count b))) (counts_at (items ++ Burst b ∷ []) tail)
     (descrambler_after (items_history items) (nibbles_in b)) (descrambler_after (items_history (items ++ Burst b ∷ [])) (nibbles_in (tail_symbols tail)))
-    (piece_nibbles (items_history items) b) (tail_nibbles (items_history (items ++ Burst b ∷ [])) tail)
+    [] (tail_nibbles (items_history (items ++ Burst b ∷ [])) tail)
     stage (tail_stage (items ++ Burst b ∷ []) tail)
     (burst_counted b items (views_at items b) e
     ∙ ap (λ (vs : List View). counts_with (items ++ Burst b ∷ []) vs) (sym (ap (λ (c : Beginning). views_at (items ++ Burst b ∷ []) c) none ∙ views_after items (Burst b))))
     (sym (history_push items (Burst b))
     ∙ sym (ap (λ (c : Beginning). descrambler_after (items_history (items ++ Burst b ∷ [])) (nibbles_in c)) none ∙ history_rests (items_history (items ++ Burst b ∷ []))))
-    (no_nibbles (items_history items) b (nothing_last b e) ∙ sym nibbles)
+    (sym nibbles)
     (sym is))
 
 -- no symbols have come, and a tail without symbols begins

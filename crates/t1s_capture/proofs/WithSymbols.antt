@@ -1,22 +1,11 @@
 -- The beginning of a burst with a list of symbols more.
-use Rattle.std.proofs.Common.{◌≡◌, refl, ℕ, zero, suc, ◌+◌, ◌<◌, ◌≤◌, Bool, true, false, List, [], ◌∷◌, ◌++◌, length, map, replicate, nat_lt, if◌then◌else◌, sym, ap, ◌∙◌, arith, append_assoc, length-append}
-use Rattle.std.specs.Prelude.{All}
-use Rattle.std.proofs.lemmas.Grind.{common_steps, flat_map-append}
-use Rattle.std.proofs.lemmas.Bool.{ltb-true, ltb-false}
-use Rattle.std.proofs.lemmas.List.{append-nil, map-append, replicate-append-replicate}
-use Rattle.std.proofs.lemmas.List.Elements.{All-append}
+use Rattle.std.proofs.Common.{◌≡◌, refl, ℕ, zero, suc, ◌+◌, List, [], ◌∷◌, ◌++◌, map, replicate, sym, ap, ◌∙◌, arith, append_assoc}
+use Rattle.std.proofs.lemmas.List.{append-nil}
 use Rattle.t1s_symbols.specs.declared.Symbol.{Symbol}
-use Rattle.t1s_symbols.specs.declared.Symbol.TheVariants.{Nibble, J, K, T, R, H, N, S}
-use Rattle.t1s_symbols.specs.Ranges.{IsSymbol}
-use Rattle.t1s_grammar.specs.Burst.{Piece, IsPieceInRange, IsCloser, open_symbols, piece_symbols, pieces_symbols}
-use Rattle.t1s_grammar.specs.Prefixes.{Beginning, beginning_symbols, IsBeginning, ArePieces, phase_of, beacon, between, opened, within, ended}
-use Rattle.t1s_grammar.specs.PlaceTable.{place_step, between_step, within_step, beacon_step, ended_step, opened_step}
-use Rattle.t1s_grammar.specs.declared.place.Phase.{Phase}
-use Rattle.t1s_grammar.specs.declared.place.Phase.TheVariants.{Beacon, Between, Opened, Within, Ended}
-use Rattle.t1s_grammar.specs.declared.place.PlaceFault.{PlaceFault}
-use Rattle.t1s_grammar.specs.declared.place.PlaceFault.TheVariants.{NotHere, TooLong}
-use Rattle.t1s_grammar.proofs.Judgements.{Judgement, taken, refused}
-use Rattle.t1s_grammar.specs.Longer.{with_symbol, piece_of}
+use Rattle.t1s_symbols.specs.declared.Symbol.TheVariants.{Nibble, J, T, H, N}
+use Rattle.t1s_grammar.specs.Burst.{Piece, open_symbols, piece_symbols, pieces_symbols}
+use Rattle.t1s_grammar.specs.Prefixes.{Beginning, beginning_symbols, IsBeginning, beacon, between, opened, within, ended}
+use Rattle.t1s_grammar.specs.Longer.{with_symbol}
 use Rattle.t1s_capture.specs.Captures.{no_symbols}
 
 abbrev pub with_symbols : Beginning → List Symbol → Beginning

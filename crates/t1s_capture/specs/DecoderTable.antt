@@ -1,14 +1,14 @@
 -- How a decoder goes on by one octet: its own table, by what it keeps.
-use Rattle.std.specs.Prelude.{ℕ, ◌+◌, ◌*◌, ◌^◌, ◌==◌, ◌&&◌, ◌||◌, Bool, true, false, [], ◌∷◌, ◌++◌, nat_lt, if◌then◌else◌, slice_index, Option, None, Some, Result, Ok, Err}
+use Rattle.std.specs.Prelude.{ℕ, suc, List, ◌+◌, ◌*◌, ◌^◌, ◌==◌, ◌&&◌, ◌||◌, Bool, true, false, [], ◌∷◌, nat_lt, if◌then◌else◌, slice_index, Option, None, Some, Result, Ok, Err}
 use Rattle.t1s_symbols.specs.declared.Symbol.{Symbol}
 use Rattle.t1s_symbols.specs.declared.Symbol.TheVariants.{Nibble, J, K, T, R, H, N, S}
 use Rattle.t1s_symbols.specs.GroupTable.{symbol}
-use Rattle.t1s_scramble.specs.Scrambled.{descrambled_nibble, descrambler_after}
 use Rattle.t1s_grammar.specs.declared.place.Phase.{Phase}
 use Rattle.t1s_grammar.specs.declared.place.PlaceFault.{PlaceFault}
 use Rattle.t1s_grammar.specs.declared.place.PlaceFault.TheVariants.{NotHere, TooLong as OneTooMany}
 use Rattle.t1s_grammar.specs.PlaceTable.{start_phase, place_step, pieces_at, lead_at, nibbles_at, ends_burst}
 use Rattle.t1s_pcs_rx.specs.Views.{View, view_by, closer_of}
+use Rattle.t1s_pcs_rx.specs.PieceReading.{PieceReading, reading_after, without_nibbles}
 use Rattle.t1s_capture.specs.declared.items.Why.{Why}
 use Rattle.t1s_capture.specs.declared.items.Why.TheVariants.{Magic as BadMagic, Version as BadVersion, NodeByte, CountZero, GapTwice, Group, Place, BurstLong, AfterEnd, TooLong, Truncated}
 use Rattle.t1s_capture.specs.declared.items.Refusal.{Refusal}
@@ -26,22 +26,10 @@ use Rattle.t1s_capture.specs.declared.decoder.Next.{Next}
 use Rattle.t1s_capture.specs.declared.decoder.Next.TheVariants.{More, Held, Refused}
 use Rattle.t1s_capture.specs.Captures.{magic}
 use Rattle.t1s_capture.specs.Pieces.{is_good}
-use Rattle.t1s_capture.specs.State.{ReaderState, DecoderState}
+use Rattle.t1s_capture.specs.State.{DecoderState}
 use Rattle.t1s_capture.specs.DecodedItems.{DecodedItem, PieceItem, BeaconItem, RunItem, BareItem, TornItem}
 
--- ---- the reader of pieces
-
--- a nibble of a piece that has so many before it
-abbrev pub with_nibble : ReaderState → ℕ → ℕ → ReaderState
-with_nibble r before n = record {
-  history = descrambler_after r.history (n ∷ []);
-  nibbles = if nat_lt before 9 then r.nibbles else r.nibbles ++ descrambled_nibble r.history n ∷ [];
-}
-
-abbrev pub without_nibbles : ReaderState → ReaderState
-without_nibbles r = record { history = r.history; nibbles = [] }
-
--- ---- marks and counts
+-- ---- octets and counts
 
 -- what an octet is where an item or a symbol may be tried
 abbrev pub symbol_kind : Option Symbol → OctetKind
@@ -132,14 +120,15 @@ abbrev pub refuses : Progress → Why → Next
 refuses p why = Refused (record { offset = p.taken; why = why })
 
 -- the decoder after one more octet
-abbrev pub after_octet : Progress → Counts → ReaderState → Stage → DecoderState
+abbrev pub after_octet : Progress → Counts → PieceReading → Stage → DecoderState
 after_octet p counts reader stage = record { taken = p.taken + 1; counts = counts; reader = reader; stage = stage }
 
 abbrev pub goes : Progress → Stage → Next
 goes p stage = More (after_octet p p.counts p.reader stage)
 
-abbrev pub yields : DecodedItem → Progress → Counts → ReaderState → Stage → Next
-yields item p counts reader stage = Held (record { item = item; decoder = after_octet p counts reader stage })
+-- an item is held, and the nibbles of its piece are let go with it
+abbrev pub yields : DecodedItem → Progress → Counts → Stage → Next
+yields item p counts stage = Held (record { item = item; decoder = after_octet p counts (without_nibbles p.reader) stage })
 
 -- ---- the header
 
@@ -175,7 +164,7 @@ abbrev pub blur_ends : Progress → BlurSoFar → ℕ → Next
 blur_ends p blur n =
     if blur.needed && (n == 0) then refuses p CountZero
     else yields (TornItem p.counts.ticks (p.counts.ticks + (4 * blur.symbols + n)) blur.symbols n) p
-    (with_torn (with_ticks p.counts (4 * blur.symbols + n))) p.reader AfterTorn
+    (with_torn (with_ticks p.counts (4 * blur.symbols + n))) AfterTorn
 
 abbrev pub counting : Progress → BlurSoFar → CountSoFar → Next
 counting p blur count = goes p (InBlur (record { needed = blur.needed; symbols = blur.symbols; count = count }))
@@ -206,7 +195,7 @@ burst_ends p burst stage =
     (whole_item (pieces_at burst.place) (lead_at burst.place) p.counts.ticks (p.counts.ticks + 4 * burst.symbols))
     p
     (with_whole (pieces_at burst.place) (lead_at burst.place) (with_ticks p.counts (4 * burst.symbols)))
-    p.reader stage
+    stage
 
 -- 20 after these symbols
 abbrev pub gap_here : Progress → BurstSoFar → Next
@@ -244,7 +233,7 @@ view_here p lead groups s = view_by lead groups (closer_of s) p.reader.nibbles
 abbrev pub piece_ends : Progress → ℕ → ℕ → Symbol → BurstSoFar → Next
 piece_ends p lead groups s burst =
     yields (PieceItem (p.counts.ticks + 4 * burst.closed) (view_here p lead groups s)) p
-    (with_piece p.counts (is_good (view_here p lead groups s))) (without_nibbles p.reader)
+    (with_piece p.counts (is_good (view_here p lead groups s)))
     (InBurst (record {
       place = burst.place;
       symbols = burst.symbols;
@@ -256,7 +245,7 @@ piece_ends p lead groups s burst =
 -- groups before it.
 abbrev pub symbol_taken : Progress → ℕ → ℕ → Symbol → BurstSoFar → Next
 symbol_taken p lead groups (Nibble n) burst =
-    More (after_octet p p.counts (with_nibble p.reader groups n) (InBurst burst))
+    More (after_octet p p.counts (reading_after groups p.reader (Nibble n)) (InBurst burst))
 symbol_taken p lead groups R burst = piece_ends p lead groups R burst
 symbol_taken p lead groups K burst = piece_ends p lead groups K burst
 symbol_taken p lead groups S burst = piece_ends p lead groups S burst
@@ -304,6 +293,19 @@ progress_of d = record { taken = d.taken; counts = d.counts; reader = d.reader }
 abbrev pub advance : DecoderState → ℕ → Next
 advance d octet =
     if d.taken == 2 ^ 30 then refuses (progress_of d) TooLong else stage_step d.stage (progress_of d) octet
+
+-- ---- the octets of a piece
+
+abbrev pub feed_on : Next → (DecoderState → ℕ × Next) → ℕ × Next
+feed_on (More d) others = (suc (others d).0, (others d).1)
+feed_on (Held held) others = (1, Held held)
+feed_on (Refused refusal) others = (1, Refused refusal)
+
+-- one octet after another, up to the first at which an item is held or that is refused: how many these are, and what
+-- the last of them leads to
+abbrev pub fed : DecoderState → List ℕ → ℕ × Next
+fed d [] = (0, More d)
+fed d (octet ∷ octets) = feed_on (advance d octet) (λ e. fed e octets)
 
 -- ---- the end of the octets
 

@@ -10,6 +10,7 @@ pub mod DecoderTable
 pub mod Ranges
 pub mod OctetKinds
 pub mod HeldItems
+pub mod StepAnswers
 pub mod Cut
 pub mod CutRows
 pub mod WriterTable

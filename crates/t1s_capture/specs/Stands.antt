@@ -5,6 +5,7 @@ use Rattle.t1s_grammar.specs.Burst.{pieces_symbols}
 use Rattle.t1s_grammar.specs.Prefixes.{Beginning, phase_of, whole_pieces, last_nibbles}
 use Rattle.t1s_grammar.specs.PlaceTable.{ends_burst}
 use Rattle.t1s_pcs_rx.specs.Views.{View}
+use Rattle.t1s_pcs_rx.specs.PieceReading.{PieceReading}
 use Rattle.t1s_capture.specs.declared.items.Counts.{Counts}
 use Rattle.t1s_capture.specs.declared.stage.BurstSoFar.{BurstSoFar}
 use Rattle.t1s_capture.specs.declared.stage.Stage.{Stage}
@@ -12,7 +13,7 @@ use Rattle.t1s_capture.specs.declared.stage.Stage.TheVariants.{Magic, Version, N
 use Rattle.t1s_capture.specs.Captures.{CaptureItem, is_gap, no_symbols, symbol_count}
 use Rattle.t1s_capture.specs.Pieces.{pieces_nibbles, nibbles_in, items_history, piece_views, views_of, counts_with}
 use Rattle.t1s_capture.specs.PrefixParts.{Tail, in_gap, in_burst, in_blur, after_torn, ended, PrefixParts, in_magic, at_version, at_node, with_items, AreMadeOf}
-use Rattle.t1s_capture.specs.State.{ReaderState, DecoderState}
+use Rattle.t1s_capture.specs.State.{DecoderState}
 
 -- whether the last item is a gap
 abbrev pub ends_with_gap : List CaptureItem → Bool
@@ -63,7 +64,7 @@ views_at items b = views_of items ++ piece_views (items_history items) (whole_pi
 abbrev pub counts_at : List CaptureItem → Tail → Counts
 counts_at items tail = counts_with items (views_at items (tail_symbols tail))
 
-abbrev pub reader_at : List CaptureItem → Tail → ReaderState
+abbrev pub reader_at : List CaptureItem → Tail → PieceReading
 reader_at items tail = record {
   history = descrambler_after (items_history items) (nibbles_in (tail_symbols tail));
   nibbles = tail_nibbles (items_history items) tail;

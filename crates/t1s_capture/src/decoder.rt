@@ -1,10 +1,10 @@
 //! The decoder of captures.
 use crate::held_item::HeldItem;
 use crate::items::{Counts, Item, Refusal, Why};
-use crate::progress::Progress;
-use crate::reader::PieceReader;
+use crate::progress::{Progress, Step};
 use crate::stage::Stage;
 use std::marker::Model;
+use t1s_pcs_rx::PieceReader;
 
 /// The most octets that a capture may have.
 const LIMIT: u64 = 1 << 30;
@@ -33,11 +33,13 @@ impl Model for Decoder {
     ghost invariant = { λ d. Fits d.progress d.stage };
 }
 
-/// A decoder that holds an item until it is released: no octet can be fed meanwhile.
+/// A decoder that holds an item until it is released: no octet can be fed meanwhile. The frame of a piece is lent from
+/// what the decoder has read.
 #[derive(Drop)]
 pub struct Held {
     item: HeldItem,
-    decoder: Decoder,
+    progress: Progress,
+    stage: Stage,
 }
 
 impl Model for Held {
@@ -45,12 +47,22 @@ impl Model for Held {
 
     ghost Value = { HeldState };
 
-    ghost use Rattle.t1s_capture.specs.HeldItems.{decoded_held_item};
+    ghost use Rattle.t1s_pcs_rx.specs.PieceReading.{without_nibbles};
+    ghost use Rattle.t1s_capture.specs.HeldItems.{held_item};
+    ghost use Rattle.t1s_capture.specs.StepAnswers.{let_go};
+    ghost use Rattle.t1s_capture.specs.Ranges.{Fits};
 
     ghost view = { λ h. record {
-      item = decoded_held_item h.item;
-      decoder = h.decoder;
+      item = held_item h.item h.progress.reader.nibbles;
+      decoder = record {
+        taken = h.progress.taken;
+        counts = h.progress.counts;
+        reader = without_nibbles h.progress.reader;
+        stage = h.stage;
+      };
     } };
+
+    ghost invariant = { λ h. Fits (let_go h.progress) h.stage };
 }
 
 /// What an octet leads to.
@@ -65,7 +77,7 @@ pub enum Next {
 }
 
 impl Decoder {
-    ghost use Rattle.std.specs.Prelude.{◌≡◌, ◌↔◌, ℕ, List, [], ◌∷◌, ◌++◌, length};
+    ghost use Rattle.std.specs.Prelude.{◌≡◌, ◌↔◌, ◌≤◌, ℕ, List, [], ◌∷◌, ◌++◌, length};
     ghost use Rattle.t1s_capture.specs.declared.items.Counts.{Counts};
     ghost use Rattle.t1s_capture.specs.declared.items.Refusal.{Refusal};
     ghost use Rattle.t1s_capture.specs.Captures.{IsCapturePrefix};
@@ -73,9 +85,8 @@ impl Decoder {
     ghost use Rattle.t1s_capture.specs.Offences.{IsFirstOffence};
     ghost use Rattle.t1s_capture.specs.Stands.{Stands, state_of};
     ghost use Rattle.t1s_capture.specs.PrefixParts.{in_magic};
-    ghost use Rattle.t1s_capture.specs.Answers.{YieldsItem, IsCountedCapture, StandsAfter};
-    ghost use Rattle.t1s_capture.specs.Ranges.{Fits};
-    ghost use Rattle.t1s_capture.specs.DecoderTable.{advance, finished};
+    ghost use Rattle.t1s_capture.specs.Answers.{YieldsItem, IsCountedCapture, IsFed, StandsAfter};
+    ghost use Rattle.t1s_capture.specs.DecoderTable.{fed, finished};
 
     /// A decoder that has taken no octet.
     pub fn new() -> Decoder
@@ -111,7 +122,20 @@ impl Decoder {
             ((r.offset ≡ length before) × IsFirstOffence (before ++ octet ∷ []) r.offset r.why) }
         ensures goes_on { (before : List ℕ) → Stands before self → StandsAfter (before ++ octet ∷ []) result }
     {
-        self.advance(octet)
+        let (_, next) = self.run(&[octet]);
+        next
+    }
+
+    /// Takes the octets of a piece, one after another, up to the first at which an item is handed out or that is refused,
+    /// or to the last. It answers how many were taken, a refused one included, and what the last of them leads to. It has
+    /// no refusal of its own, and takes what further octets there are by further calls.
+    pub fn feed(self, piece: &[u8]) -> (usize, Next)
+        requires { 1 ≤ length piece.now }
+        ensures some { 1 ≤ result.0 }
+        ensures within { result.0 ≤ length piece.now }
+        ensures fed { (before : List ℕ) → Stands before self → IsFed before piece.now result.0 result.1 }
+    {
+        self.run(piece)
     }
 
     /// Ends the input. It is Ok exactly where the octets that were taken are a capture, with its counts. Else they are
@@ -125,23 +149,38 @@ impl Decoder {
         self.ended()
     }
 
-    /// The decoder at this stage.
-    pub(crate) fn of(progress: Progress, stage: Stage) -> Decoder
-        requires { Fits progress stage }
-        ensures { result ≡ record { taken = progress.taken; counts = progress.counts; reader = progress.reader; stage = stage } }
+    /// The octets by the table of stages, one after another.
+    fn run(self, piece: &[u8]) -> (usize, Next)
+        ensures { result ≡ fed self piece.now }
     {
-        Decoder { progress, stage }
-    }
-
-    /// The octet by the table of stages.
-    fn advance(self, octet: u8) -> Next
-        ensures { result ≡ advance self octet }
-    {
-        let Decoder { progress, stage } = self;
-        if progress.taken == LIMIT {
-            return progress.refuses(Why::TooLong);
+        let Decoder {
+            mut progress,
+            mut stage,
+        } = self;
+        for index in 0..piece.len() {
+            if progress.taken == LIMIT {
+                return (index + 1, progress.refuses(Why::TooLong));
+            }
+            match progress.step(stage, piece[index]) {
+                Step::Goes(next) => {
+                    progress.taken += 1;
+                    stage = next;
+                }
+                Step::Yields(item, stage) => {
+                    progress.taken += 1;
+                    return (
+                        index + 1,
+                        Next::Held(Held {
+                            item,
+                            progress,
+                            stage,
+                        }),
+                    );
+                }
+                Step::Refuses(why) => return (index + 1, progress.refuses(why)),
+            }
         }
-        progress.step(stage, octet)
+        (piece.len(), Next::More(Decoder { progress, stage }))
     }
 
     /// The end by the stage.
@@ -161,27 +200,41 @@ impl Decoder {
 impl Held {
     ghost use Rattle.std.specs.Prelude.{◌≡◌, ◌≤◌, length};
     ghost use Rattle.t1s_capture.specs.DecodedItems.{frame_of_item};
-    ghost use Rattle.t1s_capture.specs.HeldItems.{decoded_held_item, decoded_item};
-
-    /// An item, and the decoder after it.
-    pub(crate) fn of(item: HeldItem, decoder: Decoder) -> Held
-        ensures { result ≡ record { item = decoded_held_item item; decoder = decoder } }
-    {
-        Held { item, decoder }
-    }
+    ghost use Rattle.t1s_capture.specs.HeldItems.{decoded_item};
 
     /// The item that is held, lent until the decoder is released. A frame has at most 1522 octets.
     pub fn item(&self) -> Item<'_>
         ensures item { decoded_item result ≡ self.now.item }
         ensures fits { length (frame_of_item (decoded_item result)) ≤ 1522 }
     {
-        self.item.item()
+        self.item.shown(&self.progress.reader)
     }
 
     /// Lets the item go. The decoder stands for all octets taken, the one that handed the item out among them.
     pub fn release(self) -> Decoder
         ensures decoder { result ≡ self.decoder }
     {
-        self.decoder
+        let Held {
+            item: _,
+            mut progress,
+            stage,
+        } = self;
+        progress.reader.clear();
+        Decoder { progress, stage }
+    }
+}
+
+impl Progress {
+    ghost use Rattle.std.specs.Prelude.{◌≡◌};
+    ghost use Rattle.t1s_capture.specs.DecoderTable.{refuses};
+
+    /// The octet is refused.
+    fn refuses(&self, why: Why) -> Next
+        ensures { result ≡ refuses self.now why }
+    {
+        Next::Refused(Refusal {
+            offset: self.taken,
+            why,
+        })
     }
 }

@@ -2,24 +2,22 @@
 ghost use Rattle.std.specs.Prelude.{◌≡◌, ◌≤◌, length};
 ghost use Rattle.t1s_pcs_rx.specs.Views.{view_shown};
 ghost use Rattle.t1s_capture.specs.DecodedItems.{frame_of_item};
-ghost use Rattle.t1s_capture.specs.HeldItems.{decoded_held_item, held_view, decoded_item};
+ghost use Rattle.t1s_capture.specs.HeldItems.{held_item, held_view, decoded_item};
 
 use crate::items::Item;
-use t1s_frame::FrameOctets;
-use t1s_pcs_rx::{Closer, Kind, PieceView};
+use t1s_pcs_rx::{Closer, Kind, PieceReader, PieceView};
 
-/// A piece that is held, with the octets of its frame.
-#[derive(Drop)]
+/// A piece that is held. The octets of its frame stay with the reader.
+#[derive(Clone, Copy)]
 pub struct HeldPiece {
     pub lead: u16,
     pub groups: u16,
     pub closer: Closer,
     pub kind: Kind,
-    pub frame: FrameOctets,
 }
 
 /// An item that is held.
-#[derive(Drop)]
+#[derive(Clone, Copy)]
 pub enum HeldItem {
     Piece {
         start: u64,
@@ -46,8 +44,8 @@ pub enum HeldItem {
 }
 
 impl HeldPiece {
-    fn view(&self) -> PieceView<'_>
-        ensures view { view_shown result ≡ held_view self.now }
+    fn view<'a>(&self, reader: &'a PieceReader) -> PieceView<'a>
+        ensures view { view_shown result ≡ held_view self.now reader.now.nibbles }
         ensures fits { length result.frame.now ≤ 1522 }
     {
         PieceView {
@@ -55,42 +53,35 @@ impl HeldPiece {
             groups: self.groups,
             closer: self.closer,
             kind: self.kind,
-            frame: self.frame.as_slice(),
+            frame: reader.frame(self.kind),
         }
     }
 }
 
 impl HeldItem {
-    /// The item, with its frame lent.
-    pub fn item(&self) -> Item<'_>
-        ensures item { decoded_item result ≡ decoded_held_item self.now }
+    /// The item, with the frame that the reader lends.
+    pub fn shown<'a>(&self, reader: &'a PieceReader) -> Item<'a>
+        ensures item { decoded_item result ≡ held_item self.now reader.now.nibbles }
         ensures fits { length (frame_of_item (decoded_item result)) ≤ 1522 }
     {
-        match self {
+        match *self {
             HeldItem::Piece { start, piece } => Item::Piece {
-                start: *start,
-                view: piece.view(),
+                start,
+                view: piece.view(reader),
             },
-            HeldItem::Beacon { start } => Item::Beacon { start: *start },
-            HeldItem::Run { start, end, pieces } => Item::Run {
-                start: *start,
-                end: *end,
-                pieces: *pieces,
-            },
-            HeldItem::Bare { start, end } => Item::Bare {
-                start: *start,
-                end: *end,
-            },
+            HeldItem::Beacon { start } => Item::Beacon { start },
+            HeldItem::Run { start, end, pieces } => Item::Run { start, end, pieces },
+            HeldItem::Bare { start, end } => Item::Bare { start, end },
             HeldItem::Torn {
                 start,
                 end,
                 symbols,
                 blur,
             } => Item::Torn {
-                start: *start,
-                end: *end,
-                symbols: *symbols,
-                blur: *blur,
+                start,
+                end,
+                symbols,
+                blur,
             },
         }
     }

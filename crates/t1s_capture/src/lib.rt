@@ -20,7 +20,6 @@ mod items;
 pub mod laws;
 mod octets;
 mod progress;
-mod reader;
 mod row;
 mod stage;
 #[cfg(test)]

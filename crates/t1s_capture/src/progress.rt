@@ -1,32 +1,42 @@
-//! What a decoder keeps beside its stage, and what an octet does to it at each stage.
-ghost use Rattle.std.specs.Prelude.{◌≡◌, ℕ, ◌+◌, ◌*◌, ◌^◌, ◌≤◌, ◌<◌, IsTrue, length};
+//! What a decoder keeps beside its stage, and what an octet does to it at each stage. It is changed in place.
+ghost use Rattle.std.specs.Prelude.{◌≡◌, ℕ, ◌+◌, ◌*◌, ◌^◌, ◌≤◌, ◌<◌, IsTrue, List, length};
 ghost use Rattle.t1s_symbols.specs.Ranges.{IsSymbol};
 ghost use Rattle.t1s_symbols.specs.declared.Symbol.TheVariants.{Nibble};
 ghost use Rattle.t1s_grammar.specs.PlaceTable.{ends_burst, place_step};
 ghost use Rattle.t1s_pcs_rx.specs.Views.{closer_symbol};
 ghost use Rattle.t1s_capture.specs.declared.stage.CountSoFar.TheVariants.{Three};
 ghost use Rattle.t1s_capture.specs.declared.stage.Stage.TheVariants.{Magic, InGap, InBurst, InBlur, AfterTorn};
-ghost use Rattle.t1s_capture.specs.DecoderTable.{refuses, goes, after_octet, magic_step, gap_step, gap_ends, blur_step, blur_ends, counting, burst_ends, gap_here, end_here, torn_here, symbol_taken, symbol_step, piece_ends, burst_step_by, torn_step_by, stage_step, with_ticks, with_torn, with_piece, with_whole, whole_item};
+ghost use Rattle.t1s_capture.specs.DecoderTable.{goes, magic_step, gap_step, gap_ends, blur_step, blur_ends, counting, burst_ends, gap_here, end_here, torn_here, symbol_taken, symbol_step, piece_ends, burst_step_by, torn_step_by, stage_step, with_ticks, with_torn, with_piece, with_whole, whole_item};
 ghost use Rattle.t1s_capture.specs.Ranges.{Fits, FitsSymbol, StageInRange, octets_begun, octets_counted, nibbles_held};
-ghost use Rattle.t1s_capture.specs.HeldItems.{decoded_held_item};
+ghost use Rattle.t1s_capture.specs.HeldItems.{held_item};
+ghost use Rattle.t1s_capture.specs.StepAnswers.{counted, step_next, StepFits};
 ghost use Rattle.t1s_capture.specs.OctetKinds.{OctetKindInRange};
 
-use crate::decoder::{Decoder, Held, Next};
 use crate::format::VERSION;
 use crate::held_item::{HeldItem, HeldPiece};
-use crate::items::{Counts, Refusal, Why};
-use crate::reader::PieceReader;
+use crate::items::{Counts, Why};
 use crate::stage::{
     BlurSoFar, BurstSoFar, CountSoFar, OctetKind, Stage, count_of, kind_of_octet, magic_octet,
 };
 use t1s_grammar::PlaceFault;
-use t1s_pcs_rx::{Closer, Kind};
+use t1s_pcs_rx::{Closer, Kind, PieceReader};
 use t1s_symbols::Symbol;
 
 /// A node's number is below this.
 const NODES: u8 = 16;
 /// The ticks of a symbol.
 const SYMBOL_TICKS: u64 = 4;
+
+/// What an octet leads to.
+#[derive(Drop)]
+pub enum Step {
+    /// This stage.
+    Goes(Stage),
+    /// An item, which is held until the decoder goes on at this stage.
+    Yields(HeldItem, Stage),
+    /// A refusal.
+    Refuses(Why),
+}
 
 /// What a decoder keeps beside its stage.
 #[derive(Drop)]
@@ -97,7 +107,7 @@ impl Counts {
 
 /// The item of a whole burst of so many pieces and so many J after them.
 fn whole_item(pieces: u16, lead: u16, start: u64, end: u64) -> HeldItem
-    ensures { decoded_held_item result ≡ whole_item pieces lead start end }
+    ensures { (heard : List ℕ) → held_item result heard ≡ whole_item pieces lead start end }
 {
     if pieces != 0 {
         HeldItem::Run {
@@ -113,73 +123,45 @@ fn whole_item(pieces: u16, lead: u16, start: u64, end: u64) -> HeldItem
 }
 
 impl Progress {
-    /// The octet is refused.
-    pub fn refuses(self, why: Why) -> Next
-        ensures { result ≡ refuses self why }
+    /// A stage that the octet leads to.
+    fn goes(&self, stage: Stage) -> Step
+        requires { Fits (counted self.now) stage }
+        ensures next { step_next result self.now ≡ goes self.now stage }
+        ensures fits { StepFits result self.now }
     {
-        Next::Refused(Refusal {
-            offset: self.taken,
-            why,
-        })
+        Step::Goes(stage)
     }
 
-    /// One octet more, which ends no item.
-    fn goes(self, stage: Stage) -> Next
-        requires below { self.taken < 2 ^ 30 }
-        requires fits { Fits (record { taken = self.taken + 1; counts = self.counts; reader = self.reader }) stage }
-        ensures { result ≡ goes self stage }
-    {
-        Next::More(self.after_octet(stage))
-    }
-
-    /// One octet more.
-    fn after_octet(self, stage: Stage) -> Decoder
-        requires below { self.taken < 2 ^ 30 }
-        requires fits { Fits (record { taken = self.taken + 1; counts = self.counts; reader = self.reader }) stage }
-        ensures { result ≡ after_octet self self.counts self.reader stage }
-    {
-        let Progress {
-            taken,
-            counts,
-            reader,
-        } = self;
-        Decoder::of(
-            Progress {
-                taken: taken + 1,
-                counts,
-                reader,
-            },
-            stage,
-        )
-    }
-
-    /// What an octet does at a stage.
-    pub fn step(self, stage: Stage, octet: u8) -> Next
-        requires below { self.taken < 2 ^ 30 }
-        requires fits { Fits self stage }
-        ensures { result ≡ stage_step stage self octet }
+    /// What an octet does at a stage. It is not counted here.
+    pub fn step(&mut self, stage: Stage, octet: u8) -> Step
+        requires below { self.old.taken < 2 ^ 30 }
+        requires fits { Fits self.old stage }
+        ensures next { step_next result self.new ≡ stage_step stage self.old octet }
+        ensures fits { StepFits result self.new }
+        ensures taken { self.new.taken ≡ self.old.taken }
     {
         match stage {
             Stage::Magic(taken) => self.in_magic(taken, octet),
             Stage::Version if octet == VERSION => self.goes(Stage::Node),
-            Stage::Version => self.refuses(Why::Version),
+            Stage::Version => Step::Refuses(Why::Version),
             Stage::Node if octet < NODES => self.goes(Stage::InBurst(BurstSoFar::none(false))),
-            Stage::Node => self.refuses(Why::NodeByte),
+            Stage::Node => Step::Refuses(Why::NodeByte),
             Stage::InGap(count) => self.in_gap(count, octet),
             Stage::InBurst(burst) => self.in_burst(burst, kind_of_octet(octet)),
             Stage::InBlur(blur) => self.in_blur(blur, octet),
             Stage::AfterTorn => self.after_torn(kind_of_octet(octet)),
-            Stage::Ended => self.refuses(Why::AfterEnd),
+            Stage::Ended => Step::Refuses(Why::AfterEnd),
         }
     }
 
-    fn in_magic(self, taken: u8, octet: u8) -> Next
-        requires below { self.taken < 2 ^ 30 }
-        requires fits { Fits self (Magic taken) }
-        ensures { result ≡ magic_step self taken octet }
+    fn in_magic(&self, taken: u8, octet: u8) -> Step
+        requires below { self.now.taken < 2 ^ 30 }
+        requires fits { Fits self.now (Magic taken) }
+        ensures next { step_next result self.now ≡ magic_step self.now taken octet }
+        ensures fits { StepFits result self.now }
     {
         if octet != magic_octet(taken) {
-            return self.refuses(Why::Magic);
+            return Step::Refuses(Why::Magic);
         }
         if taken == 3 {
             return self.goes(Stage::Version);
@@ -187,10 +169,12 @@ impl Progress {
         self.goes(Stage::Magic(taken + 1))
     }
 
-    fn in_gap(self, count: CountSoFar, octet: u8) -> Next
-        requires below { self.taken < 2 ^ 30 }
-        requires fits { Fits self (InGap count) }
-        ensures { result ≡ gap_step self count octet }
+    fn in_gap(&mut self, count: CountSoFar, octet: u8) -> Step
+        requires below { self.old.taken < 2 ^ 30 }
+        requires fits { Fits self.old (InGap count) }
+        ensures next { step_next result self.new ≡ gap_step self.old count octet }
+        ensures fits { StepFits result self.new }
+        ensures taken { self.new.taken ≡ self.old.taken }
     {
         match count {
             CountSoFar::Nothing => self.goes(Stage::InGap(CountSoFar::One(octet))),
@@ -200,22 +184,26 @@ impl Progress {
         }
     }
 
-    fn gap_ends(mut self, ticks: u32) -> Next
-        requires below { self.taken < 2 ^ 30 }
-        requires fits { (a : ℕ) × (b : ℕ) × (c : ℕ) × Fits self (InGap (Three a b c)) }
-        ensures { result ≡ gap_ends self ticks }
+    fn gap_ends(&mut self, ticks: u32) -> Step
+        requires below { self.old.taken < 2 ^ 30 }
+        requires fits { (a : ℕ) × (b : ℕ) × (c : ℕ) × Fits self.old (InGap (Three a b c)) }
+        ensures next { step_next result self.new ≡ gap_ends self.old ticks }
+        ensures fits { StepFits result self.new }
+        ensures taken { self.new.taken ≡ self.old.taken }
     {
         if ticks == 0 {
-            return self.refuses(Why::CountZero);
+            return Step::Refuses(Why::CountZero);
         }
         self.counts = self.counts.with_ticks(ticks as u64);
         self.goes(Stage::InBurst(BurstSoFar::none(true)))
     }
 
-    fn in_blur(self, blur: BlurSoFar, octet: u8) -> Next
-        requires below { self.taken < 2 ^ 30 }
-        requires fits { Fits self (InBlur blur) }
-        ensures { result ≡ blur_step self blur octet }
+    fn in_blur(&mut self, blur: BlurSoFar, octet: u8) -> Step
+        requires below { self.old.taken < 2 ^ 30 }
+        requires fits { Fits self.old (InBlur blur) }
+        ensures next { step_next result self.new ≡ blur_step self.old blur octet }
+        ensures fits { StepFits result self.new }
+        ensures taken { self.new.taken ≡ self.old.taken }
     {
         match blur.count {
             CountSoFar::Nothing => self.counting(blur, CountSoFar::One(octet)),
@@ -226,11 +214,12 @@ impl Progress {
     }
 
     /// One octet more of the count of a blur.
-    fn counting(self, blur: BlurSoFar, count: CountSoFar) -> Next
-        requires below { self.taken < 2 ^ 30 }
-        requires fits { Fits self (InBlur blur) }
+    fn counting(&self, blur: BlurSoFar, count: CountSoFar) -> Step
+        requires below { self.now.taken < 2 ^ 30 }
+        requires fits { Fits self.now (InBlur blur) }
         requires one { octets_counted count ≡ octets_counted blur.count + 1 }
-        ensures { result ≡ counting self blur count }
+        ensures next { step_next result self.now ≡ counting self.now blur count }
+        ensures fits { StepFits result self.now }
     {
         self.goes(Stage::InBlur(BlurSoFar {
             needed: blur.needed,
@@ -239,14 +228,16 @@ impl Progress {
         }))
     }
 
-    fn blur_ends(mut self, blur: BlurSoFar, ticks: u32) -> Next
-        requires below { self.taken < 2 ^ 30 }
-        requires fits { Fits self (InBlur blur) }
+    fn blur_ends(&mut self, blur: BlurSoFar, ticks: u32) -> Step
+        requires below { self.old.taken < 2 ^ 30 }
+        requires fits { Fits self.old (InBlur blur) }
         requires whole { octets_counted blur.count ≡ 3 }
-        ensures { result ≡ blur_ends self blur ticks }
+        ensures next { step_next result self.new ≡ blur_ends self.old blur ticks }
+        ensures fits { StepFits result self.new }
+        ensures taken { self.new.taken ≡ self.old.taken }
     {
         if blur.needed && ticks == 0 {
-            return self.refuses(Why::CountZero);
+            return Step::Refuses(Why::CountZero);
         }
         let start = self.counts.ticks;
         let lasts = SYMBOL_TICKS * blur.symbols + ticks as u64;
@@ -257,94 +248,104 @@ impl Progress {
             symbols: blur.symbols,
             blur: ticks as u64,
         };
-        Next::Held(Held::of(item, self.after_octet(Stage::AfterTorn)))
+        Step::Yields(item, Stage::AfterTorn)
     }
 
-    fn after_torn(self, octet_kind: OctetKind) -> Next
-        requires below { self.taken < 2 ^ 30 }
-        requires fits { Fits self AfterTorn }
-        ensures { result ≡ torn_step_by octet_kind self }
+    fn after_torn(&self, kind: OctetKind) -> Step
+        requires below { self.now.taken < 2 ^ 30 }
+        requires fits { Fits self.now AfterTorn }
+        ensures next { step_next result self.now ≡ torn_step_by kind self.now }
+        ensures fits { StepFits result self.now }
     {
-        match octet_kind {
+        match kind {
             OctetKind::Gap => self.goes(Stage::InGap(CountSoFar::Nothing)),
             OctetKind::End => self.goes(Stage::Ended),
-            OctetKind::Torn | OctetKind::Known(_) => self.refuses(Why::Place),
-            OctetKind::Unknown => self.refuses(Why::Group),
+            OctetKind::Torn | OctetKind::Known(_) => Step::Refuses(Why::Place),
+            OctetKind::Unknown => Step::Refuses(Why::Group),
         }
     }
 
-    fn in_burst(self, burst: BurstSoFar, octet_kind: OctetKind) -> Next
-        requires below { self.taken < 2 ^ 30 }
-        requires fits { Fits self (InBurst burst) }
-        requires symbol { OctetKindInRange octet_kind }
-        ensures { result ≡ burst_step_by octet_kind self burst }
+    fn in_burst(&mut self, burst: BurstSoFar, kind: OctetKind) -> Step
+        requires below { self.old.taken < 2 ^ 30 }
+        requires fits { Fits self.old (InBurst burst) }
+        requires symbol { OctetKindInRange kind }
+        ensures next { step_next result self.new ≡ burst_step_by kind self.old burst }
+        ensures fits { StepFits result self.new }
+        ensures taken { self.new.taken ≡ self.old.taken }
     {
-        match octet_kind {
+        match kind {
             OctetKind::Gap => self.gap_here(burst),
             OctetKind::End => self.end_here(burst),
             OctetKind::Torn => self.torn_here(burst),
             OctetKind::Known(symbol) => self.symbol_here(burst, symbol),
-            OctetKind::Unknown => self.refuses(Why::Group),
+            OctetKind::Unknown => Step::Refuses(Why::Group),
         }
     }
 
     /// A gap begins after these symbols.
-    fn gap_here(self, burst: BurstSoFar) -> Next
-        requires below { self.taken < 2 ^ 30 }
-        requires fits { Fits self (InBurst burst) }
-        ensures { result ≡ gap_here self burst }
+    fn gap_here(&mut self, burst: BurstSoFar) -> Step
+        requires below { self.old.taken < 2 ^ 30 }
+        requires fits { Fits self.old (InBurst burst) }
+        ensures next { step_next result self.new ≡ gap_here self.old burst }
+        ensures fits { StepFits result self.new }
+        ensures taken { self.new.taken ≡ self.old.taken }
     {
         if burst.place.is_burst() {
             return self.burst_ends(burst, Stage::InGap(CountSoFar::Nothing));
         }
         if burst.symbols != 0 {
-            return self.refuses(Why::Place);
+            return Step::Refuses(Why::Place);
         }
         if burst.after_gap {
-            return self.refuses(Why::GapTwice);
+            return Step::Refuses(Why::GapTwice);
         }
         self.goes(Stage::InGap(CountSoFar::Nothing))
     }
 
     /// The capture ends after these symbols.
-    fn end_here(self, burst: BurstSoFar) -> Next
-        requires below { self.taken < 2 ^ 30 }
-        requires fits { Fits self (InBurst burst) }
-        ensures { result ≡ end_here self burst }
+    fn end_here(&mut self, burst: BurstSoFar) -> Step
+        requires below { self.old.taken < 2 ^ 30 }
+        requires fits { Fits self.old (InBurst burst) }
+        ensures next { step_next result self.new ≡ end_here self.old burst }
+        ensures fits { StepFits result self.new }
+        ensures taken { self.new.taken ≡ self.old.taken }
     {
         if burst.place.is_burst() {
             return self.burst_ends(burst, Stage::Ended);
         }
         if burst.symbols != 0 {
-            return self.refuses(Why::Place);
+            return Step::Refuses(Why::Place);
         }
         self.goes(Stage::Ended)
     }
 
     /// The burst ends before the octet, which leads to this stage.
-    fn burst_ends(mut self, burst: BurstSoFar, stage: Stage) -> Next
-        requires below { self.taken < 2 ^ 30 }
-        requires fits { Fits self (InBurst burst) }
+    fn burst_ends(&mut self, burst: BurstSoFar, stage: Stage) -> Step
+        requires below { self.old.taken < 2 ^ 30 }
+        requires fits { Fits self.old (InBurst burst) }
         requires begun { octets_begun stage ≤ 1 }
         requires none { nibbles_held stage ≡ 0 }
         requires range { StageInRange stage }
         requires ends { IsTrue (ends_burst burst.place) }
-        ensures { result ≡ burst_ends self burst stage }
+        ensures next { step_next result self.new ≡ burst_ends self.old burst stage }
+        ensures fits { StepFits result self.new }
+        ensures taken { self.new.taken ≡ self.old.taken }
     {
         let start = self.counts.ticks;
         let lasts = SYMBOL_TICKS * burst.symbols;
         let pieces = burst.place.pieces();
         let lead = burst.place.lead();
         self.counts = self.counts.with_ticks(lasts).with_whole(pieces, lead);
-        let item = whole_item(pieces, lead, start, start + lasts);
-        Next::Held(Held::of(item, self.after_octet(stage)))
+        Step::Yields(whole_item(pieces, lead, start, start + lasts), stage)
     }
 
     /// The burst is torn after these symbols.
-    fn torn_here(mut self, burst: BurstSoFar) -> Next
-        requires below { self.taken < 2 ^ 30 }
-        requires fits { Fits self (InBurst burst) }
-        ensures { result ≡ torn_here self burst }
+    fn torn_here(&mut self, burst: BurstSoFar) -> Step
+        requires below { self.old.taken < 2 ^ 30 }
+        requires fits { Fits self.old (InBurst burst) }
+        ensures next { step_next result self.new ≡ torn_here self.old burst }
+        ensures fits { StepFits result self.new }
+        ensures taken { self.new.taken ≡ self.old.taken }
     {
         self.reader.clear();
         self.goes(Stage::InBlur(BlurSoFar {
@@ -354,11 +355,13 @@ impl Progress {
         }))
     }
 
-    fn symbol_here(self, burst: BurstSoFar, symbol: Symbol) -> Next
-        requires below { self.taken < 2 ^ 30 }
-        requires fits { Fits self (InBurst burst) }
+    fn symbol_here(&mut self, burst: BurstSoFar, symbol: Symbol) -> Step
+        requires below { self.old.taken < 2 ^ 30 }
+        requires fits { Fits self.old (InBurst burst) }
         requires symbol { IsSymbol symbol }
-        ensures { result ≡ symbol_step self burst symbol (place_step burst.place symbol) }
+        ensures next { step_next result self.new ≡ symbol_step self.old burst symbol (place_step burst.place symbol) }
+        ensures fits { StepFits result self.new }
+        ensures taken { self.new.taken ≡ self.old.taken }
     {
         let lead = burst.place.lead();
         let groups = burst.place.nibbles();
@@ -380,17 +383,19 @@ impl Progress {
                     after_gap,
                 },
             ),
-            Err(PlaceFault::TooLong) => self.refuses(Why::BurstLong),
-            Err(PlaceFault::NotHere) => self.refuses(Why::Place),
+            Err(PlaceFault::TooLong) => Step::Refuses(Why::BurstLong),
+            Err(PlaceFault::NotHere) => Step::Refuses(Why::Place),
         }
     }
 
     /// A symbol that may stand here, with which the symbols are these. The piece that is begun had this lead and so
     /// many groups before it.
-    fn symbol_taken(self, symbol: Symbol, lead: u16, groups: u16, burst: BurstSoFar) -> Next
-        requires fits { FitsSymbol self symbol groups burst }
+    fn symbol_taken(&mut self, symbol: Symbol, lead: u16, groups: u16, burst: BurstSoFar) -> Step
+        requires fits { FitsSymbol self.old symbol groups burst }
         requires symbol { IsSymbol symbol }
-        ensures { result ≡ symbol_taken self lead groups symbol burst }
+        ensures next { step_next result self.new ≡ symbol_taken self.old lead groups symbol burst }
+        ensures fits { StepFits result self.new }
+        ensures taken { self.new.taken ≡ self.old.taken }
     {
         match symbol {
             Symbol::Nibble(nibble) => self.nibble_taken(nibble, groups, burst),
@@ -401,19 +406,23 @@ impl Progress {
         }
     }
 
-    fn nibble_taken(mut self, nibble: u8, groups: u16, burst: BurstSoFar) -> Next
-        requires fits { FitsSymbol self (Nibble nibble) groups burst }
+    fn nibble_taken(&mut self, nibble: u8, groups: u16, burst: BurstSoFar) -> Step
+        requires fits { FitsSymbol self.old (Nibble nibble) groups burst }
         requires range { nibble < 16 }
-        ensures { result ≡ symbol_taken self 0 groups (Nibble nibble) burst }
+        ensures next { step_next result self.new ≡ symbol_taken self.old 0 groups (Nibble nibble) burst }
+        ensures fits { StepFits result self.new }
+        ensures taken { self.new.taken ≡ self.old.taken }
     {
-        self.reader.take(groups, nibble);
+        self.reader.take(groups, Symbol::Nibble(nibble));
         self.goes(Stage::InBurst(burst))
     }
 
-    /// A closer ends a piece of this lead and so many groups.
-    fn piece_ends(mut self, closer: Closer, lead: u16, groups: u16, burst: BurstSoFar) -> Next
-        requires fits { FitsSymbol self (closer_symbol closer) groups burst }
-        ensures { result ≡ piece_ends self lead groups (closer_symbol closer) burst }
+    /// A closer ends a piece of this lead and so many groups. Its nibbles stay with the reader, which lends its frame.
+    fn piece_ends(&mut self, closer: Closer, lead: u16, groups: u16, burst: BurstSoFar) -> Step
+        requires fits { FitsSymbol self.old (closer_symbol closer) groups burst }
+        ensures next { step_next result self.new ≡ piece_ends self.old lead groups (closer_symbol closer) burst }
+        ensures fits { StepFits result self.new }
+        ensures taken { self.new.taken ≡ self.old.taken }
     {
         let kind = self.reader.kind(closer);
         let piece = HeldPiece {
@@ -421,11 +430,9 @@ impl Progress {
             groups,
             closer,
             kind,
-            frame: self.reader.frame(kind),
         };
         let start = self.counts.ticks + SYMBOL_TICKS * burst.closed;
         self.counts = self.counts.with_piece(kind == Kind::Good);
-        self.reader.clear();
         let BurstSoFar {
             place,
             symbols,
@@ -438,7 +445,6 @@ impl Progress {
             closed: symbols,
             after_gap,
         });
-        let item = HeldItem::Piece { start, piece };
-        Next::Held(Held::of(item, self.after_octet(stage)))
+        Step::Yields(HeldItem::Piece { start, piece }, stage)
     }
 }

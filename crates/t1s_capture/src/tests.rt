@@ -1,3 +1,5 @@
+ghost use Rattle.std.specs.Prelude.{◌≤◌, length};
+
 use crate::{Counts, Decoder, Item, Next, Refusal, Why};
 use std::process::Abort;
 use std::test::Fail;
@@ -5,6 +7,19 @@ use t1s_frame::Frame;
 use t1s_grammar::{PieceText, put_piece};
 use t1s_pcs_rx::{Closer, Kind, PieceView};
 use t1s_scramble::Scrambler;
+
+/// Wants this item at this offset to be the next one of these, after so many.
+fn check_item(
+    rt: &impl Abort,
+    items: &[(usize, Item<'_>)],
+    count: usize,
+    offset: usize,
+    item: Item<'_>,
+) {
+    assert!(rt; count < items.len(), "an item at {offset}");
+    assert_eq!(rt; offset, items[count].0);
+    assert_eq!(rt; item, items[count].1);
+}
 
 /// Wants a decoder to hand out these items at these offsets, and to say this at the end of the octets.
 fn check(
@@ -25,20 +40,18 @@ fn check_parts(
 ) {
     let mut decoder = Decoder::new();
     let mut offset = 0usize;
-    let mut handed = 0usize;
+    let mut count = 0usize;
     for part in parts.iter() {
         for octet in part.iter() {
             match decoder.step(*octet) {
                 Next::More(next) => decoder = next,
                 Next::Held(held) => {
-                    assert!(rt; handed < items.len(), "an item at {offset}");
-                    assert_eq!(rt; offset, items[handed].0);
-                    assert_eq!(rt; held.item(), items[handed].1);
-                    handed = handed.saturating_add(1);
+                    check_item(rt, items, count, offset, held.item());
+                    count = count.saturating_add(1);
                     decoder = held.release();
                 }
                 Next::Refused(refusal) => {
-                    assert_eq!(rt; handed, items.len());
+                    assert_eq!(rt; count, items.len());
                     assert_eq!(rt; Err(refusal), end);
                     return;
                 }
@@ -46,7 +59,7 @@ fn check_parts(
             offset = offset.saturating_add(1);
         }
     }
-    assert_eq!(rt; handed, items.len());
+    assert_eq!(rt; count, items.len());
     assert_eq!(rt; decoder.finish(), end);
 }
 
@@ -132,10 +145,13 @@ fn gaps_beacons_and_bare_commits_are_read(rt: HostRuntime) {
     );
 }
 
+/// A capture of one run, of one piece of twelve groups.
+const RUN: [u8; 25] =
+    *b"T1SC\x01\x02\x18\x18\x04\x04\x0B\x0B\x0B\x09\x16\x16\x16\x1D\x17\x16\x1C\x1B\x0D\x07\x21";
+
 /// Wants a run of one piece of twelve groups, closed by this octet, to be read as a piece of this kind.
 fn check_run(rt: &impl Abort, octet: u8, closer: Closer, kind: Kind) {
-    let mut octets =
-        *b"T1SC\x01\x02\x18\x18\x04\x04\x0B\x0B\x0B\x09\x16\x16\x16\x1D\x17\x16\x1C\x1B\x0D\x07\x21";
+    let mut octets = RUN;
     octets[23] = octet;
     let view = PieceView {
         lead: 2,
@@ -287,6 +303,10 @@ fn torn_bursts_are_read_with_their_blur(rt: HostRuntime) {
             ..NOTHING
         }),
     );
+}
+
+#[test]
+fn only_a_gap_or_the_end_follows_a_torn_burst(rt: HostRuntime) {
     let torn = (
         11,
         Item::Torn {
@@ -332,4 +352,47 @@ fn a_burst_is_too_long_at_its_three_counts(rt: HostRuntime) {
     let piece = b"\x18\x18\x04\x04\x1E\x1E\x1E\x1E\x1E\x1E\x1E\x1E\x1E\x0D\x11";
     let pieces: [(&[u8], u16); 2] = [(piece, 4096), (b"\x18\x18\x04", 1)];
     assert_eq!(rt; refusal(&pieces), Some(Refusal { offset: 61448, why }));
+}
+
+/// The item that is held after a piece of octets, where one is: how many of them were taken, whether it is a piece, the
+/// tick of its end where it is a run, and the decoder that is released.
+fn fed(decoder: Decoder, piece: &[u8]) -> Option<(usize, bool, u64, Decoder)>
+    requires { 1 ≤ length piece.now }
+{
+    let (count, Next::Held(held)) = decoder.feed(piece) else {
+        return None;
+    };
+    let (is_piece, end) = match held.item() {
+        Item::Piece { .. } => (true, 0),
+        Item::Run { end, .. } => (false, end),
+        _ => (false, 0),
+    };
+    Some((count, is_piece, end, held.release()))
+}
+
+#[test]
+fn octets_are_fed_up_to_each_item(rt: HostRuntime) -> Result<(), Fail> {
+    let (count, is_piece, _, decoder) = fed(Decoder::new(), &RUN).ok_or("no item is held")?;
+    assert_eq!(rt; count, 24);
+    assert!(rt; is_piece);
+    let (count, is_piece, end, decoder) = fed(decoder, b"\x21").ok_or("no item is held")?;
+    assert_eq!(rt; count, 1);
+    assert!(rt; !is_piece);
+    assert_eq!(rt; end, 72);
+    assert_eq!(rt; decoder.finish().map(|counts| counts.ticks), Ok(72));
+    Ok(())
+}
+
+#[test]
+fn octets_are_fed_up_to_a_refused_one_or_to_the_last(rt: HostRuntime) {
+    let (count, next) = Decoder::new().feed(b"T1SC\x01\x02\x18\x04\x18");
+    assert_eq!(rt; count, 8);
+    let why = Why::Place;
+    assert!(rt; matches!(next, Next::Refused(refusal) if refusal == Refusal { offset: 7, why }));
+    let (count, next) = Decoder::new().feed(b"T1SC\x01");
+    assert_eq!(rt; count, 5);
+    let Next::More(decoder) = next else {
+        return;
+    };
+    assert_eq!(rt; decoder.finish(), refused(5, Why::Truncated));
 }

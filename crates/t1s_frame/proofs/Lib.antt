@@ -2,3 +2,4 @@ pub mod CheckSteps
 pub mod Nibbles
 pub mod Pieces
 pub mod Whole
+pub mod PackedNibbles

@@ -1,4 +1,5 @@
 pub mod Arrivals
 pub mod Frame
+pub mod PackedNibbles
 pub mod FrameCheck
 pub mod Laws

@@ -1,13 +1,9 @@
 //! How a received piece is classified.
-ghost use Rattle.std.specs.Prelude.{◌≡◌, ◌+◌, ◌*◌, ◌<◌, ◌≤◌, length, All};
-ghost use Rattle.t1s_frame.specs.Arrivals.{arrival_of, ends_with_check, octets_of};
+ghost use Rattle.std.specs.Prelude.{◌≡◌, ◌<◌, ◌≤◌, length, All};
+ghost use Rattle.t1s_frame.specs.Arrivals.{arrival_of, ends_with_check};
 
 use crate::check_sequence::fcs;
-use crate::frames::{LONGEST, SHORTEST};
-use arrayvec::ArrayVec;
-
-/// The last nibbles of the preamble from the tenth on, and the nibble that ends the start-of-frame delimiter.
-const DELIMITER: [u8; 3] = [5, 5, 13];
+use crate::piece_nibbles::PieceNibbles;
 
 /// What a receiver makes of a piece that it took off the line.
 #[derive(Clone, Copy, Debug, PartialEq, Eq)]
@@ -31,41 +27,15 @@ pub fn classify(nibbles: &[u8]) -> Arrival
     requires ranges { All (λ n. n < 16) nibbles.now }
     ensures { result ≡ arrival_of nibbles.now }
 {
-    if !nibbles.starts_with(&DELIMITER) {
-        return Arrival::NoSfd;
+    let mut piece = PieceNibbles::new();
+    for nibble in nibbles {
+        piece.push(*nibble);
     }
-    let rest = &nibbles[DELIMITER.len()..];
-    if rest.len() % 2 == 1 {
-        return Arrival::Odd;
-    }
-    if rest.len() / 2 < SHORTEST {
-        return Arrival::Runt;
-    }
-    if !has_check(octets_of(rest).as_slice()) {
-        return Arrival::BadFcs;
-    }
-    Arrival::Good
-}
-
-/// The octets of a frame, or fewer, in fixed room.
-pub type FrameOctets = ArrayVec<u8, LONGEST>;
-
-/// The octets of nibbles, at most 3044 of them and each below 16, low nibble first. An odd last nibble is left out.
-/// It takes no memory.
-pub fn octets_of(nibbles: &[u8]) -> FrameOctets
-    requires fits { length nibbles.now ≤ 2 * LONGEST }
-    requires ranges { All (λ n. n < 16) nibbles.now }
-    ensures { result.items ≡ octets_of nibbles.now }
-{
-    let mut octets = ArrayVec::new();
-    for i in 0..nibbles.len() / 2 {
-        octets.push(nibbles[2 * i] + 16 * nibbles[2 * i + 1]);
-    }
-    octets
+    piece.arrival()
 }
 
 /// Whether the last four octets are the frame check sequence of those before, low octet first.
-fn has_check(octets: &[u8]) -> bool
+pub fn has_check(octets: &[u8]) -> bool
     ensures { result ≡ ends_with_check octets.now }
 {
     let before = &octets[..octets.len().saturating_sub(4)];

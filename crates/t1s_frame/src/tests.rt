@@ -30,6 +30,14 @@ fn class_of_part(mut nibbles: [u8; 131], count: usize, place: usize, flip: u8) -
     class_of(nibbles.get(..count)?)
 }
 
+/// A piece with one nibble more.
+fn with(mut piece: PieceNibbles, nibble: u8) -> PieceNibbles {
+    if nibble < 16 && piece.count() < MOST_NIBBLES {
+        piece.push(nibble);
+    }
+    piece
+}
+
 #[test]
 fn check_sequence_of_nine_digits(rt: HostRuntime) {
     assert_eq!(rt; fcs(b"123456789"), 0xCBF4_3926);
@@ -90,10 +98,19 @@ fn pieces_by_their_first_fault(rt: HostRuntime) -> Result<(), Fail> {
 }
 
 #[test]
-fn nibbles_join_to_octets_low_one_first(rt: HostRuntime) {
-    assert_eq!(rt;
-        octets_of(&[0x1, 0x2, 0xA, 0x5, 0xF]).as_slice(),
-        [0x21, 0x5A].as_slice()
-    );
-    assert!(rt; octets_of(&[0xF]).as_slice().is_empty());
+fn the_octets_of_a_piece_are_packed_as_its_nibbles_come(rt: HostRuntime) {
+    let mut piece = PieceNibbles::new();
+    assert!(rt; piece.octets().is_empty());
+    for nibble in [5, 5, 13, 1, 2, 3] {
+        piece = with(piece, nibble);
+    }
+    assert_eq!(rt; piece.octets(), [0x21].as_slice());
+    assert_eq!(rt; piece.arrival(), Arrival::Odd);
+    piece = with(piece, 4);
+    assert_eq!(rt; piece.octets(), [0x21, 0x43].as_slice());
+    assert_eq!(rt; piece.arrival(), Arrival::Runt);
+    piece.clear();
+    assert!(rt; piece.octets().is_empty());
+    piece = with(piece, 7);
+    assert_eq!(rt; piece.arrival(), Arrival::NoSfd);
 }

@@ -20,7 +20,8 @@ use Rattle.t1s_grammar.proofs.Longer.{All-nil}
 use Rattle.t1s_grammar.proofs.Judgements.{step-J, step-N, step-H, step-nibble, step-T}
 use Rattle.t1s_pcs_rx.specs.declared.reader.Burst.TheVariants.{Outside, Reading}
 use Rattle.t1s_pcs_rx.specs.Receiver.{Receiver}
-use Rattle.t1s_pcs_rx.specs.ReceiveTable.{closing_in, receive_step, nibbles_after}
+use Rattle.t1s_pcs_rx.specs.PieceReading.{nibbles_after}
+use Rattle.t1s_pcs_rx.specs.ReceiveTable.{closing_in, receive_step}
 use Rattle.t1s_pcs_rx.specs.Views.{View, view_of, view_by, closer_of}
 use Rattle.t1s_pcs_rx.specs.Laws.{PiecesAreHandedOn, burst_events, events_heard, no_events, piece_events, quarters, run_events}
 use Rattle.t1s_pcs_rx.proofs.Ticks.{At, Goes, goes-symbol, goes-then, tick}

@@ -10,7 +10,8 @@ use Rattle.t1s_symbols.specs.declared.Symbol.TheVariants.{Nibble, J, K, T, R, H,
 use Rattle.t1s_grammar.specs.declared.place.Phase.{Phase}
 use Rattle.t1s_grammar.specs.declared.place.Phase.TheVariants.{Beacon, Between, Opened, Within, Ended}
 use Rattle.t1s_grammar.specs.PlaceTable.{place_step, nibbles_at, beacon_step, between_step, opened_step, within_step, ended_step}
-use Rattle.t1s_pcs_rx.specs.ReceiveTable.{nibbles_after, closed_by}
+use Rattle.t1s_pcs_rx.specs.PieceReading.{nibbles_after}
+use Rattle.t1s_pcs_rx.specs.ReceiveTable.{closed_by}
 use Rattle.t1s_pcs_rx.specs.Ranges.{room_at}
 
 -- a closer leaves the kept nibbles as they are

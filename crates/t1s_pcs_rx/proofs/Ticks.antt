@@ -12,7 +12,8 @@ use Rattle.t1s_grammar.specs.PlaceTable.{place_step, lead_at, nibbles_at}
 use Rattle.t1s_pcs_rx.specs.declared.reader.Burst.TheVariants.{Reading}
 use Rattle.t1s_pcs_rx.specs.declared.reader.PieceEnd.{PieceEnd}
 use Rattle.t1s_pcs_rx.specs.Receiver.{Receiver}
-use Rattle.t1s_pcs_rx.specs.ReceiveTable.{class_after, closed_by, closing_in, history_after, nibbles_after, receive_step, view_closed}
+use Rattle.t1s_pcs_rx.specs.PieceReading.{history_after, nibbles_after}
+use Rattle.t1s_pcs_rx.specs.ReceiveTable.{class_after, closed_by, closing_in, receive_step, view_closed}
 use Rattle.t1s_pcs_rx.specs.Views.{View}
 use Rattle.t1s_pcs_rx.specs.Laws.{events_heard, quarters}
 

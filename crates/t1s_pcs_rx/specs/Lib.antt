@@ -1,4 +1,5 @@
 pub mod Views
+pub mod PieceReading
 pub mod Receiver
 pub mod ReceiveTable
 pub mod Ranges

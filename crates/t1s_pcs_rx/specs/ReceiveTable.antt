@@ -1,14 +1,13 @@
 -- What a receiver makes of one tick: the class, the reading of a burst, and its pieces.
-use Rattle.std.specs.Prelude.{ℕ, Bool, true, false, ◌&&◌, ◌==◌, nat_lt, List, [], ◌∷◌, ◌++◌, Option, Some, None, Result, Ok, Err, if◌then◌else◌}
+use Rattle.std.specs.Prelude.{ℕ, Bool, true, false, ◌&&◌, ◌==◌, List, Option, Some, None, Result, Ok, Err, if◌then◌else◌}
 use Rattle.t1s_symbols.specs.declared.Quarter.{Quarter}
 use Rattle.t1s_symbols.specs.declared.Heard.{Heard}
 use Rattle.t1s_symbols.specs.declared.Heard.TheVariants.{Nothing, One, Many}
 use Rattle.t1s_symbols.specs.declared.Symbol.{Symbol}
-use Rattle.t1s_symbols.specs.declared.Symbol.TheVariants.{Nibble, J, K as Bad, R as Fine, H, N, S as Cut}
+use Rattle.t1s_symbols.specs.declared.Symbol.TheVariants.{J, K as Bad, R as Fine, N, S as Cut}
 use Rattle.t1s_symbols.specs.declared.Class.{Class}
 use Rattle.t1s_symbols.specs.declared.Class.TheVariants.{None as Unread, Beacon, Run, Other}
 use Rattle.t1s_symbols.specs.Quarters.{continues_last}
-use Rattle.t1s_scramble.specs.Scrambled.{descrambled_nibble, descrambler_after}
 use Rattle.t1s_grammar.specs.declared.place.Phase.{Phase}
 use Rattle.t1s_grammar.specs.declared.place.PlaceFault.{PlaceFault}
 use Rattle.t1s_grammar.specs.PlaceTable.{start_phase, place_step, lead_at, nibbles_at}
@@ -16,6 +15,7 @@ use Rattle.t1s_pcs_rx.specs.declared.piece.Closer.TheVariants.{R, K, S}
 use Rattle.t1s_pcs_rx.specs.declared.reader.Burst.{Burst}
 use Rattle.t1s_pcs_rx.specs.declared.reader.Burst.TheVariants.{Outside, Reading, Ended}
 use Rattle.t1s_pcs_rx.specs.declared.reader.PieceEnd.{PieceEnd}
+use Rattle.t1s_pcs_rx.specs.PieceReading.{history_after, nibbles_after}
 use Rattle.t1s_pcs_rx.specs.Receiver.{Receiver}
 use Rattle.t1s_pcs_rx.specs.Views.{View, view_by}
 
@@ -46,21 +46,6 @@ class_after class fresh s = if fresh then class_of s else class
 abbrev pub class_at_end : Class → Bool → Class
 class_at_end Unread own = if own then Unread else Other
 class_at_end class own = class
-
--- ---- the nibbles
-
--- the descrambler takes each nibble
-abbrev pub history_after : List Bool → Symbol → List Bool
-history_after past (Nibble n) = descrambler_after past (n ∷ [])
-history_after past _ = past
-
--- the nibbles of a piece begin after its two H, and those from the tenth on are kept, descrambled. The number
--- counts the nibbles of the piece so far
-abbrev pub nibbles_after : ℕ → List Bool → List ℕ → Symbol → List ℕ
-nibbles_after count past heard H = []
-nibbles_after count past heard (Nibble n) =
-    if nat_lt count 9 then heard else heard ++ descrambled_nibble past n ∷ []
-nibbles_after count past heard _ = heard
 
 -- ---- a tick
 

@@ -9,12 +9,13 @@
 #![tactic(auto)]
 
 pub mod laws;
-mod nibbles;
 mod piece;
+mod piece_reader;
 mod reader;
 mod receiver;
 #[cfg(test)]
 mod tests;
 
 pub use piece::{Closer, Kind, PieceView};
+pub use piece_reader::PieceReader;
 pub use receiver::{PcsRx, RxEvent};

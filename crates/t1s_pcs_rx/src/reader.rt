@@ -1,22 +1,18 @@
 //! The reading of bursts, a quarter at a time.
-ghost use Rattle.std.specs.Prelude.{◌≡◌, ◌<◌, ◌≤◌, length, All, IfSome, IsTrue};
-ghost use Rattle.t1s_symbols.specs.Ranges.{IsHeard, IsQuarter, IsSymbol};
+ghost use Rattle.std.specs.Prelude.{◌≡◌, length, IfSome, IsTrue};
+ghost use Rattle.t1s_symbols.specs.Ranges.{IsHeard, IsQuarter};
 ghost use Rattle.t1s_pcs_rx.specs.Receiver.{Receiver, receive_start};
-ghost use Rattle.t1s_pcs_rx.specs.ReceiveTable.{class_after, class_at_end, class_in, class_of, closed_by, closing_at, closing_by, closing_from, closing_in, counted, ended, entered, heard_by, history_after, after_judgement, nibbles_after, quarter_heard, receive_step};
-ghost use Rattle.t1s_pcs_rx.specs.Ranges.{room_at, HasRoom};
+ghost use Rattle.t1s_pcs_rx.specs.ReceiveTable.{class_after, class_at_end, class_in, class_of, closed_by, closing_at, closing_by, closing_from, closing_in, counted, ended, entered, heard_by, after_judgement, quarter_heard, receive_step};
+ghost use Rattle.t1s_pcs_rx.specs.Ranges.{room_at};
 ghost use Rattle.t1s_pcs_rx.specs.declared.reader.Burst.TheVariants.{Ended};
 ghost use Rattle.t1s_grammar.specs.PlaceTable.{place_step};
 
-use crate::nibbles::Nibbles;
 use crate::piece::Closer;
+use crate::piece_reader::PieceReader;
 use std::marker::Model;
 use std::mem;
 use t1s_grammar::Place;
-use t1s_scramble::Descrambler;
 use t1s_symbols::{Class, Heard, Quarter, QuarterReading, Symbol};
-
-/// The nibbles of a piece that are not kept: the descrambler finds its step in them.
-const NOT_HEARD: u16 = 9;
 
 /// Where a receiver is in what it hears.
 #[derive(Drop)]
@@ -47,8 +43,7 @@ pub struct PieceEnd {
 pub struct Reader {
     class: Class,
     burst: Burst,
-    descrambler: Descrambler,
-    nibbles: Nibbles,
+    pieces: PieceReader,
 }
 
 impl Model for Reader {
@@ -61,15 +56,15 @@ impl Model for Reader {
     ghost view = { λ r. record {
       class = r.class;
       burst = r.burst;
-      history = r.descrambler;
-      nibbles = r.nibbles;
+      history = r.pieces.history;
+      nibbles = r.pieces.nibbles;
     } };
 
     ghost invariant = { λ r. IsReceiver (record {
       class = r.class;
       burst = r.burst;
-      history = r.descrambler;
-      nibbles = r.nibbles;
+      history = r.pieces.history;
+      nibbles = r.pieces.nibbles;
     }) };
 }
 
@@ -81,8 +76,7 @@ impl Reader {
         Reader {
             class: Class::None,
             burst: Burst::Outside,
-            descrambler: Descrambler::new(),
-            nibbles: Nibbles::new(),
+            pieces: PieceReader::new(),
         }
     }
 
@@ -93,13 +87,11 @@ impl Reader {
         self.class
     }
 
-    /// The nibbles of the piece from the tenth on.
-    pub fn nibbles(&self) -> &[u8]
-        ensures value { result.now ≡ self.now.nibbles }
-        ensures most { length self.now.nibbles ≤ 3047 }
-        ensures ranges { All (λ n. n < 16) self.now.nibbles }
+    /// The pieces, as they are read.
+    pub fn pieces(&self) -> &PieceReader
+        ensures { result.now ≡ record { history = self.now.history; nibbles = self.now.nibbles } }
     {
-        self.nibbles.as_slice()
+        &self.pieces
     }
 
     /// One tick: the end of a piece, where the tick closes one. `own` tells that the node drives in it.
@@ -210,12 +202,7 @@ impl Reader {
         match place.take(quarter.sym) {
             Err(_) => None,
             Ok(next) => {
-                keep(
-                    &mut self.descrambler,
-                    &mut self.nibbles,
-                    groups,
-                    quarter.sym,
-                );
+                self.pieces.take(groups, quarter.sym);
                 self.burst = Burst::Reading {
                     last: Some(quarter),
                     fresh: false,
@@ -278,28 +265,6 @@ fn class_at_end(class: Class, own: bool) -> Class
     match class {
         Class::None if !own => Class::Other,
         class => class,
-    }
-}
-
-/// A symbol that is taken moves the descrambler where it is a nibble, and is kept from the tenth nibble of its
-/// piece on. `groups` counts the nibbles of the piece before it.
-fn keep(descrambler: &mut Descrambler, nibbles: &mut Nibbles, groups: u16, sym: Symbol)
-    requires symbol { IsSymbol sym }
-    requires room { HasRoom sym (length nibbles.old) }
-    requires ranges { All (λ n. n < 16) nibbles.old }
-    ensures history { descrambler.new ≡ history_after descrambler.old sym }
-    ensures nibbles { nibbles.new ≡ nibbles_after groups descrambler.old nibbles.old sym }
-    ensures ranges { All (λ n. n < 16) nibbles.new }
-{
-    match sym {
-        Symbol::H => nibbles.clear(),
-        Symbol::Nibble(nibble) => {
-            let plain = descrambler.descramble(nibble);
-            if NOT_HEARD <= groups {
-                nibbles.push(plain);
-            }
-        }
-        _ => {}
     }
 }
 

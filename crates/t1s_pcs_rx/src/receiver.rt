@@ -1,21 +1,15 @@
 //! The receiver, which lends the views of its pieces.
-ghost use Rattle.std.specs.Prelude.{◌≡◌, ◌*◌, ◌<◌, ◌≤◌, [], length, All};
+ghost use Rattle.std.specs.Prelude.{◌≡◌};
 ghost use Rattle.std.specs.Borrow.{sem};
 ghost use Rattle.t1s_symbols.specs.Ranges.{IsHeard};
 ghost use Rattle.t1s_pcs_rx.specs.Receiver.{receive_start};
 ghost use Rattle.t1s_pcs_rx.specs.ReceiveTable.{receive_event};
-ghost use Rattle.t1s_pcs_rx.specs.Views.{frame_of, kind_of};
 ghost use Rattle.t1s_pcs_rx.specs.Leaves.{event_shown, LeavesReceiver};
 
-use crate::piece::{Closer, Kind, PieceView};
+use crate::piece::PieceView;
 use crate::reader::Reader;
-use arrayvec::ArrayVec;
 use std::marker::Model;
-use t1s_frame::{Arrival, FrameOctets, classify, octets_of};
 use t1s_symbols::{Class, Heard};
-
-/// The nibbles 5, 5, D before the octets of a frame.
-const DELIMITER: usize = 3;
 
 /// What a tick tells.
 #[derive(Clone, Copy, PartialEq, Eq, Debug)]
@@ -30,7 +24,6 @@ pub enum RxEvent<'a> {
 #[derive(Drop)]
 pub struct PcsRx {
     reader: Reader,
-    octets: FrameOctets,
 }
 
 impl Model for PcsRx {
@@ -48,7 +41,6 @@ impl PcsRx {
     {
         PcsRx {
             reader: Reader::new(),
-            octets: ArrayVec::new(),
         }
     }
 
@@ -70,45 +62,14 @@ impl PcsRx {
         let Some(closing) = self.reader.step(h, own) else {
             return RxEvent::Nothing;
         };
-        let kind = kind_of(closing.closer, self.reader.nibbles());
-        put_frame(&mut self.octets, kind, self.reader.nibbles());
+        let pieces = self.reader.pieces();
+        let kind = pieces.kind(closing.closer);
         RxEvent::Piece(PieceView {
             lead: closing.lead,
             groups: closing.groups,
             closer: closing.closer,
             kind,
-            frame: self.octets.as_slice(),
+            frame: pieces.frame(kind),
         })
-    }
-}
-
-/// The kind of a piece, by its closer and its nibbles from the tenth on.
-fn kind_of(closer: Closer, nibbles: &[u8]) -> Kind
-    requires most { length nibbles.now ≤ 3047 }
-    requires ranges { All (λ n. n < 16) nibbles.now }
-    ensures { result ≡ kind_of closer nibbles.now }
-{
-    match closer {
-        Closer::R => match classify(nibbles) {
-            Arrival::Good => Kind::Good,
-            Arrival::BadFcs => Kind::BadFcs,
-            Arrival::Odd => Kind::Odd,
-            Arrival::Runt => Kind::Runt,
-            Arrival::NoSfd => Kind::NoSfd,
-        },
-        Closer::K => Kind::Errored,
-        Closer::S => Kind::Jabber,
-    }
-}
-
-/// Replaces the octets by those of the frame of a piece: none where its kind is not `Good`.
-fn put_frame(octets: &mut FrameOctets, kind: Kind, nibbles: &[u8])
-    requires most { length nibbles.now ≤ 3047 }
-    requires ranges { All (λ n. n < 16) nibbles.now }
-    ensures { octets.new.items ≡ frame_of kind nibbles.now }
-{
-    match kind {
-        Kind::Good => *octets = octets_of(&nibbles[DELIMITER.min(nibbles.len())..]),
-        _ => octets.clear(),
     }
 }

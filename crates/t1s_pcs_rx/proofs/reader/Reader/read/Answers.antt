@@ -10,8 +10,8 @@ returns-in-Complete-clause-after c =
     let old : Receiver = record {
       class = c.self.inside.class;
       burst = c.self.inside.burst;
-      history = c.self.inside.descrambler;
-      nibbles = c.self.inside.nibbles;
+      history = c.self.inside.pieces.history;
+      nibbles = c.self.inside.pieces.nibbles;
     } in
     let whole = complete-from c.in-Reading.last c.args.quarter (sym c.reading.ensures ∙ c.in-Complete.is) in
     quarter-complete old c.judge.new.self c.args.quarter c.args.own c.in-Reading.last c.in-Reading.fresh

@@ -1,0 +1,9 @@
+pub mod OwnRunTx
+pub mod OwnRunTicks
+pub mod OwnRunPiece
+pub mod OwnRunLead
+pub mod OwnRunSteps
+pub mod OwnRunClose
+pub mod OwnRunParts
+pub mod OwnRunWhole
+pub mod OwnRunLaw

@@ -167,12 +167,12 @@ module _ {D : Type 0} (answer : D → ℕ → ℕ) (after : D → D) (bounded : 
   SentUpTo u = (w : ℕ) × (first + 8 < w) × (w ≤ u) × (w < first + 4 * count_of f) × (note_at answer after start given w ≡ Sent f.number)
 
   -- tick u, which is tick m of the piece
-  record PieceRun (m u : ℕ) : Type 0 where
-    run : Run (suc u)
-    popped : List ℕ
-    tick : PieceTick f m run.place popped
-    pop : popped_at answer after start given u ≡ popped
-    sent : is_sent run.place ≡ true → SentUpTo u
+  pub record PieceRun (m u : ℕ) : Type 0 where
+    pub run : Run (suc u)
+    pub popped : List ℕ
+    pub tick : PieceTick f m run.place popped
+    pub pop : popped_at answer after start given u ≡ popped
+    pub sent : is_sent run.place ≡ true → SentUpTo u
 
   piece_first : popped_at answer after start given first ≡ nibble_of f 0 ∷ [] → Stands (InPiece f false 0 0) (core_at answer after start given (suc first))
       → Awake answer after bounded start given end calm (suc first) → 144 ≤ count_of f → PieceRun 0 first
@@ -223,6 +223,14 @@ module _ {D : Type 0} (answer : D → ℕ → ℕ) (after : D → D) (bounded : 
 
   left_stands : (u : ℕ) (place : Place) → Stands place (core_at answer after start given (suc u)) → Stands place (left u)
   left_stands u place h = subst (Stands place) (next_core answer after bounded start given end calm u) h
+
+  -- each tick of the piece, from its first pop to the end of its closer
+  pub piece_run : popped_at answer after start given first ≡ nibble_of f 0 ∷ [] → Stands (InPiece f false 0 0) (core_at answer after start given (suc first))
+      → Awake answer after bounded start given end calm (suc first) → (m u : ℕ) → first + m ≡ u → m < 4 * count_of f + 8 → u ≤ end → PieceRun m u
+  piece_run pop stands awake = piece_on (piece_first pop stands awake many) many
+    where
+      many : 144 ≤ count_of f
+      many = (long f (first_heads f _ _ _ _ _ _ _ _ _ stands.joint).frame).0
 
   pub whole_piece : popped_at answer after start given first ≡ nibble_of f 0 ∷ [] → Stands (InPiece f false 0 0) (core_at answer after start given (suc first))
       → Awake answer after bounded start given end calm (suc first) → IsPieceOf answer after start given end f first

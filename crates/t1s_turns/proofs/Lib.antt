@@ -12,3 +12,12 @@ pub mod ControlTurns
 pub mod NodeKept
 pub mod Turns
 pub mod Draws
+pub mod OwnRunTx
+pub mod OwnRunTicks
+pub mod OwnRunPiece
+pub mod OwnRunLead
+pub mod OwnRunSteps
+pub mod OwnRunClose
+pub mod OwnRunParts
+pub mod OwnRunWhole
+pub mod OwnRunLaw

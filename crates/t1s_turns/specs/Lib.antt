@@ -4,3 +4,4 @@ pub mod ControlOverWaves
 pub mod DriveOverWaves
 pub mod NodeOverWaves
 pub mod Laws
+pub mod OwnRun

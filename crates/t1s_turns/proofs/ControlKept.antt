@@ -1,19 +1,18 @@
 -- From the drive phase of a tick to control as the next tick finds it: what is heard tells which wave is over the node.
 use Rattle.std.proofs.Common.{◌≡◌, ℕ, ◌+◌, ◌*◌, ◌<◌, ◌≤◌, ◌⊎◌, inl, inr, Bool, true, false, List, [], ◌∷◌, Option, refl, sym, ◌∙◌, ap, subst, arith}
 use Rattle.std.specs.Prelude.{is_some}
-use Rattle.std.proofs.lemmas.Bool.{cases_lt, cases_eq, false≢true}
+use Rattle.std.proofs.lemmas.Bool.{false≢true}
 use Rattle.t1s_symbols.specs.declared.Heard.{Heard}
 use Rattle.t1s_symbols.specs.declared.Quarter.{Quarter}
 use Rattle.t1s_pcs_tx.specs.State.{Stage, Quiet, Beaconing}
 use Rattle.plca_control.specs.declared.State.{State}
 use Rattle.plca_control.specs.declared.State.TheVariants.{Beacon}
-use Rattle.t1s_world.specs.Waves.{CycleSettings, IsCycleSettings, Wave, AreBehind, AreApart, IsWave, EachWave, OldestWave, IsFirstBeacon, arrived, seen, opportunity_start}
+use Rattle.t1s_world.specs.Waves.{CycleSettings, IsCycleSettings, Wave, AreBehind, AreApart, IsWave, EachWave, OldestWave, IsFirstBeacon, arrived, seen, BeginsBehind}
 use Rattle.t1s_world.proofs.Arrived.{ArrivedNext, same, more, comes, lasts, are_apart}
-use Rattle.t1s_world.proofs.Opportunities.{opportunity_far, opportunity_low}
+use Rattle.t1s_world.proofs.Opportunities.{opportunity_low, opportunity_one}
 use Rattle.t1s_world.proofs.Seen.{NewestArrived, is_seen, still_rises, standing, head_is, SeenNext, as_before, risen, begun, sees, own_seen, risen_seen, each_arrived, oldest_arrived, behind_arrived, none_before}
 use Rattle.t1s_turns.specs.ReceiverOverWaves.{HeardOverWaves, drives, rests, theirs}
-use Rattle.t1s_turns.specs.ControlOverWaves.{WaitingControl, fades, syncs, WasThere, from_start, ControlOverWaves, recovers, waits_for_beacon, hears_first_wave, owns_beacon, owns_run, waits}
-use Rattle.t1s_turns.specs.DriveOverWaves.{BeginsBehind}
+use Rattle.t1s_turns.specs.ControlOverWaves.{WaitingControl, fades, syncs, WasThere, from_start, NoOwnWave, ControlOverWaves, recovers, waits_for_beacon, hears_first_wave, owns_beacon, owns_run, waits}
 use Rattle.t1s_turns.proofs.ReceiverSteps.{read_whole}
 use Rattle.t1s_turns.proofs.DriveTurns.{DriveTurn, recovers_on, has_recovered, waits_on_for_beacon, hears_on, beacon_goes_on, beacon_ends, run_goes_on, run_ends, waits_on, catches, begins_beacon, begins_run}
 
@@ -75,7 +74,7 @@ module _ (n : CycleSettings) (is : IsCycleSettings n) (t : ℕ) (ws : List Wave)
       let new = new_own h hears none in
       let newest = go new (standing n is t ws a rest behind begins.newest) in
       let pair = subst (λ (xs : List Wave). AreBehind n xs) (new.at ∙ ap (λ (xs : List Wave). new.w ∷ xs) newest) (behind_arrived n (t + 1) ws behind) in
-      record { new = new; newest = newest; place = place_is new.w.place pair.1.order (omega (arith, begins.now, new.from, pair.1.own new.own)) }
+      record { new = new; newest = newest; place = opportunity_one n a x new.w.place (omega (arith, is.rise_low, is.to_high)) begins.order pair.1.order (omega (arith, begins.now, new.from, pair.1.own new.own)) }
     where
       none : (w : Wave) (others : List Wave) → arrived t ws ≡ w ∷ others → w.own ≡ true → t < w.till → ⊥
       none w others e own lt =
@@ -90,17 +89,8 @@ module _ (n : CycleSettings) (is : IsCycleSettings n) (t : ℕ) (ws : List Wave)
           let pair = subst (λ (xs : List Wave). AreBehind n xs) (new.at ∙ ap (λ (xs : List Wave). new.w ∷ xs) e) (behind_arrived n (t + 1) ws behind) in
           absurd (omega (arith, pair.1.gap, pair.1.long, new.from, soon, is.fall_low))
 
-      place_is : (y : ℕ) → a.next ≤ y → opportunity_start n a x ≡ opportunity_start n a y → x ≡ y
-      place_is y order e = elim (cases_eq x y) [
-        | inl equal ↦ equal
-        | inr other ↦ elim (cases_lt x y) [
-          | inl lt ↦ let room = opportunity_far n a x y begins.order lt in absurd (omega (arith, room, e, is.rise_low, is.to_high))
-          | inr ge ↦ let room = opportunity_far n a y x order (omega (arith, ge, other)) in absurd (omega (arith, room, e, is.rise_low, is.to_high))
-        ]
-      ]
-
 module _ (Sends : ℕ → State → Stage → ℕ → Type 0) (n : CycleSettings) (is : IsCycleSettings n) (begin t now : ℕ) (started : begin ≤ t) (soon : t < now) (ws : List Wave) (behind : AreBehind n ws)
-    (each : EachWave (IsWave n now) ws) (first : n.owns 0 ≡ true → OldestWave (IsFirstBeacon n begin) ws) where
+    (each : EachWave (IsWave n now) ws) (first : n.owns 0 ≡ true → OldestWave (IsFirstBeacon n begin) ws) (ready : Bool) where
   abbrev Kept : State → Stage → ℕ → Type 0
   Kept st stage part = ControlOverWaves Sends n begin (t + 1) ws st stage part
 
@@ -137,16 +127,16 @@ module _ (Sends : ℕ → State → Stage → ℕ → Type 0) (n : CycleSettings
       absurd_wave w rest e = absurd (cc)
 
   -- a beacon behind all IDs
-  beacon_begins : (h : Heard) (a : Wave) (rest : List Wave) (x : ℕ) → BeginsBehind n t ws a rest x → n.owns 0 ≡ true → n.count ≤ x → Hears h true → Kept (Beacon 20) Beaconing 0
-  beacon_begins h a rest x begins zero all hears =
-      let b = own_behind n is t ws behind h a rest x hears begins in
+  beacon_begins : (h : Heard) (a : Wave) (rest : List Wave) → BeginsBehind n t ws a rest n.count → n.owns 0 ≡ true → Hears h true → Kept (Beacon 20) Beaconing 0
+  beacon_begins h a rest begins zero hears =
+      let b = own_behind n is t ws behind h a rest n.count hears begins in
       let wave = newest_wave (t + 1) b.new.w (arrived t ws) b.new.at in
       owns_beacon {a = b.new.w} {rest = arrived t ws} {left = 20} {part = 0} 0 zero b.new.at b.new.own (kind b.new.w.beacon refl wave b.place) (omega (arith, b.new.from, started)) (omega (arith, b.new.lasts))
       (omega (arith, b.new.from)) (omega arith) refl (omega arith)
     where
-      kind : (f : Bool) {w : Wave} → w.beacon ≡ f → IsWave n now w → x ≡ w.place → w.beacon ≡ true
+      kind : (f : Bool) {w : Wave} → w.beacon ≡ f → IsWave n now w → n.count ≡ w.place → w.beacon ≡ true
       kind true e wave place = e
-      kind false e wave place = absurd (omega (arith, all, place, (wave.run e).0))
+      kind false e wave place = absurd (omega (arith, place, (wave.run e).0))
 
   run_begins : (h : Heard) (a : Wave) (rest : List Wave) (x : ℕ) (st : State) (stage : Stage) (part : ℕ) → BeginsBehind n t ws a rest x → n.owns x ≡ true → Sends 1 st stage part → Hears h true
       → Kept st stage part
@@ -184,13 +174,27 @@ module _ (Sends : ℕ → State → Stage → ℕ → Type 0) (n : CycleSettings
       let still = same_wave n is t ws behind w (a ∷ rest) at (inl within) in
       waits {a = w} {rest = a ∷ rest} (risen_seen n is (t + 1) ws w (a ∷ rest) behind still (omega (arith, at_rise))) (from_start (omega (arith, there, pair.1.gap))) state
 
-  pub control_kept : (h : Heard) (st : State) (stage : Stage) (part : ℕ) (quarter : Option Quarter) → DriveTurn Sends n begin t ws st stage part quarter → Hears h (is_some quarter) → Kept st stage part
-  control_kept h _ _ _ _ (recovers_on zero at low) hears = recovers zero (omega (arith, at)) (omega (arith, low))
+  -- no wave of its own comes where the node does not drive
+  none_next : (h : Heard) → NoOwnWave begin t ws → Hears h false → NoOwnWave begin (t + 1) ws
+  none_next h none hears w rest e own from = go (comes n t ws (are_apart n is.fall_low ws behind))
+    where
+      go : ArrivedNext n t ws → ⊥
+      go (same before) = none w rest (sym before ∙ e) own from
+      go (more v new now apart) =
+          let head = (head_is v w (arrived t ws) rest (sym new ∙ e)).0 in
+          let at = ap (λ (x : Wave). x.from) head in
+          let ended = over h w rest e own hears in
+          let some = lasts n v (arrived t ws) apart in
+          let till = ap (λ (x : Wave). x.till) head in
+          absurd (omega (arith, at, now, ended, some, till))
+
+  pub control_kept : (h : Heard) (st : State) (stage : Stage) (part : ℕ) (quarter : Option Quarter) → DriveTurn Sends n begin t ws ready st stage part quarter → Hears h (is_some quarter) → Kept st stage part
+  control_kept h _ _ _ _ (recovers_on zero at low nothing) hears = recovers zero (omega (arith, at)) (omega (arith, low))
   control_kept h _ _ _ _ (has_recovered zero at) hears = recovered h zero at hears
-  control_kept h _ _ _ _ (waits_on_for_beacon zero) hears = waits_for_beacon zero
-  control_kept h _ _ _ _ (hears_on w rest zero at rose long within) hears =
+  control_kept h _ _ _ _ (waits_on_for_beacon zero none nothing) hears = waits_for_beacon zero (none_next h none hears)
+  control_kept h _ _ _ _ (hears_on w rest zero none at rose long within nothing) hears =
       let still = same_wave n is t ws behind w rest at (inr (omega (arith, long), within)) in
-      hears_first_wave {w = w} {rest = rest} zero still (omega (arith, rose)) long (omega (arith, within))
+      hears_first_wave {w = w} {rest = rest} zero (none_next h none hears) still (omega (arith, rose)) long (omega (arith, within))
   control_kept h _ _ _ _ (beacon_goes_on {left = left} {part = part} a rest symbols zero at own flag from within time low left_is some) hears =
       let still = same_wave n is t ws behind a rest at (inl within) in
       let lt = goes h a rest still hears in
@@ -209,7 +213,7 @@ module _ (Sends : ℕ → State → Stage → ℕ → Type 0) (n : CycleSettings
       let ended = over h a rest still own hears in
       waits {a = a} {rest = rest} (own_seen n is (t + 1) ws a rest behind still own) (from_start from)
       (fades {a = a} own flag (((newest_wave t a rest at).run flag).1 ∙ own) (omega (arith, ended)) (omega (arith, within, is.fall_low)))
-  control_kept h st _ part _ (waits_on a rest newest there none state) hears = on_waiting h a rest st part newest there none state hears
-  control_kept h st _ part _ (catches w a rest at there at_rise state) hears = on_caught w a rest st part at there at_rise state
-  control_kept h _ _ _ _ (begins_beacon a rest x begins zero all) hears = beacon_begins h a rest x begins zero all hears
-  control_kept h st stage part _ (begins_run a rest x begins mine sends) hears = run_begins h a rest x st stage part begins mine sends hears
+  control_kept h st _ part _ (waits_on a rest newest there none state nothing) hears = on_waiting h a rest st part newest there none state hears
+  control_kept h st _ part _ (catches w a rest at there at_rise state nothing) hears = on_caught w a rest st part at there at_rise state
+  control_kept h _ _ _ _ (begins_beacon a rest begins zero) hears = beacon_begins h a rest begins zero hears
+  control_kept h st stage part _ (begins_run a rest x begins mine some sends) hears = run_begins h a rest x st stage part begins mine sends hears

@@ -17,12 +17,13 @@ use Rattle.plca_control.specs.declared.State.TheVariants.{Recover, Resync, Early
 use Rattle.plca_control.specs.ControlTable.{control_row, reach, is_beacon, is_own, is_active, is_closed_good}
 use Rattle.t1s_node.specs.declared.carrier.Carrier.{Carrier}
 use Rattle.t1s_node.proofs.OwnDrives.{drives_first}
-use Rattle.t1s_world.specs.Waves.{CycleSettings, IsCycleSettings, Wave, Behind, AreBehind, IsWave, EachWave, OldestWave, IsFirstBeacon, IsAlive, arrived, seen, opportunity_start, reads_beacon}
+use Rattle.t1s_world.specs.Waves.{CycleSettings, IsCycleSettings, Wave, Behind, AreBehind, IsWave, EachWave, OldestWave, IsFirstBeacon, IsAlive, arrived, seen, lag, opportunity_start, reads_beacon}
 use Rattle.t1s_world.proofs.Opportunities.{opportunity_first}
-use Rattle.t1s_world.proofs.Seen.{NewestArrived, is_seen, still_rises, standing, head_is, behind_arrived, none_before, risen_seen}
+use Rattle.t1s_world.proofs.Seen.{NewestArrived, is_seen, still_rises, standing, head_is, behind_arrived, none_before, risen_seen, own_seen}
 use Rattle.t1s_turns.specs.CarrierOverWaves.{CarrierOverWaves, silent, missed, rising, steady, fading, faded, short}
 use Rattle.t1s_turns.specs.ReceiverOverWaves.{ReceiverOverWaves, silent as none_heard, unheard, reads_first, known as heard_known, past as heard_past, late as heard_late}
-use Rattle.t1s_turns.specs.ControlOverWaves.{WaitingControl, listens, fades, syncs, counts, WasThere, from_start, from_within, ControlOverWaves, recovers, waits_for_beacon, hears_first_wave, owns_beacon, owns_run, waits}
+use Rattle.t1s_turns.specs.ControlOverWaves.{WaitingControl, listens, fades, syncs, counts, WasThere, from_start, from_within, NoOwnWave, ControlOverWaves, recovers, waits_for_beacon, hears_first_wave, owns_beacon, owns_run, waits}
+use Rattle.t1s_turns.specs.DriveOverWaves.{IsQuiet}
 use Rattle.t1s_turns.proofs.ControlSteps.{NextControl, goes_on, newer, sleeps_in, starts_beacon, starts_commit, from_reach, reached}
 use Rattle.t1s_turns.proofs.DriveTurns.{DriveTurn, recovers_on, has_recovered, waits_on_for_beacon, hears_on, beacon_goes_on, beacon_ends, waits_on, catches, begins_beacon, begins_run}
 use Rattle.t1s_turns.proofs.RunTurns.{SendsRun, RunPlace, run_turn, first_quarter, sends_own}
@@ -111,7 +112,7 @@ module _ (s : ControlSet) (n : CycleSettings) (is : IsCycleSettings n) (same_own
     (i : ControlIn) (c : Carrier) (burst : Burst) (shown : i.crs ≡ c.on) (carrier : CarrierOverWaves n begin t (arrived t ws) c) (receiver : ReceiverOverWaves n begin t (arrived t ws) i.class burst)
     (part : ℕ) (past : List Bool) (ended bad : Bool) (line : List ℕ) where
   abbrev Comes : State → Stage → ℕ → Option Quarter → Type 0
-  Comes st stage p q = DriveTurn SendsRun n begin t ws st stage p q
+  Comes st stage p q = DriveTurn SendsRun n begin t ws i.ready st stage p q
 
   -- what a row of control comes to with the transmitter in this stage
   abbrev TurnTo : Stage → State × TxCmd → Type 0
@@ -141,8 +142,15 @@ module _ (s : ControlSet) (n : CycleSettings) (is : IsCycleSettings n) (same_own
   oldest_from (x ∷ []) o = o.from
   oldest_from (x ∷ y ∷ xs) o = oldest_from (y ∷ xs) o
 
-  recovering : (q : ℕ) → n.owns 0 ≡ true → begin + q ≡ t → q ≤ 258 * n.to → TurnTo Quiet (control_row s (Recover q) i)
-  recovering q zero at low =
+  -- nothing is due where no frame is ready and no wave is the node's own
+  unready : i.ready ≡ false → NoOwnWave begin t ws → IsQuiet n begin t ws i.ready
+  unready idle none = record { own_over = λ w rest e own from. absurd (none w rest e own from); passes = λ a rest x begins mine. idle }
+
+  none_come : arrived t ws ≡ [] → NoOwnWave begin t ws
+  none_come nothing w rest e own from = let none : [] ≡ w ∷ rest = sym nothing ∙ e in absurd (cc)
+
+  recovering : (q : ℕ) → i.ready ≡ false → n.owns 0 ≡ true → begin + q ≡ t → q ≤ 258 * n.to → TurnTo Quiet (control_row s (Recover q) i)
+  recovering q idle zero at low =
       let nothing : arrived t ws ≡ [] = none_before n (begin + 258 * n.to) t ws behind (oldest_from ws (first zero)) (omega (arith, at, low)) in
       let off : i.crs ≡ false = shown ∙ off_before n begin t (arrived t ws) c nothing carrier in
       elim (cases_eq q (258 * s.to)) [
@@ -151,18 +159,18 @@ module _ (s : ControlSet) (n : CycleSettings) (is : IsCycleSettings n) (same_own
             by_row Quiet (control_row s (Recover q) i) (Beacon 20, BeaconCmd) (rw (off, b) refl) (beacon_to (Beacon 20) (has_recovered zero (omega (arith, at, equal, same_to))))
         | inr other ↦
             let b : (q == 258 * s.to) ≡ false = grind (arith, nat_tests, other) in
-            by_row Quiet (control_row s (Recover q) i) (Recover (q + 1), NoCmd) (rw (off, b) refl) (quiet_to (Recover (q + 1)) (recovers_on zero at (omega (arith, low, other, same_to))))
+            by_row Quiet (control_row s (Recover q) i) (Recover (q + 1), NoCmd) (rw (off, b) refl) (quiet_to (Recover (q + 1)) (recovers_on zero at (omega (arith, low, other, same_to)) (unready idle (none_come nothing))))
       ]
 
   -- carrier is on: the node hears a wave, and waits for what it says
-  hearing : n.owns 0 ≡ false → i.crs ≡ true → Comes Early Quiet 0 None
-  hearing zero on =
+  hearing : i.ready ≡ false → n.owns 0 ≡ false → NoOwnWave begin t ws → i.crs ≡ true → Comes Early Quiet 0 None
+  hearing idle zero none on =
       let h = carrier_on n is.fall_low begin t (arrived t ws) c (sym shown ∙ on) carrier in
-      hears_on h.w h.rest zero h.at h.rose h.long h.within
+      hears_on h.w h.rest zero none h.at h.rose h.long h.within (unready idle none)
 
-  waiting_for_beacon : (b : Bool) → i.crs ≡ b → n.owns 0 ≡ false → TurnTo Quiet (control_row s Resync i)
-  waiting_for_beacon true e zero = by_row Quiet (control_row s Resync i) (Early, NoCmd) (rw e refl) (quiet_to Early (hearing zero e))
-  waiting_for_beacon false e zero = by_row Quiet (control_row s Resync i) (Resync, NoCmd) (rw e refl) (quiet_to Resync (waits_on_for_beacon zero))
+  waiting_for_beacon : (b : Bool) → i.crs ≡ b → i.ready ≡ false → n.owns 0 ≡ false → NoOwnWave begin t ws → TurnTo Quiet (control_row s Resync i)
+  waiting_for_beacon true e idle zero none = by_row Quiet (control_row s Resync i) (Early, NoCmd) (rw e refl) (quiet_to Early (hearing idle zero none e))
+  waiting_for_beacon false e idle zero none = by_row Quiet (control_row s Resync i) (Resync, NoCmd) (rw e refl) (quiet_to Resync (waits_on_for_beacon zero none (unready idle none)))
 
   -- ---- where a node takes part and does not drive
 
@@ -189,26 +197,80 @@ module _ (s : ControlSet) (n : CycleSettings) (is : IsCycleSettings n) (same_own
   there_next a (from_start from) = from_start from
   there_next a (from_within over long) = from_within (omega (arith, over)) long
 
+  -- behind the newest wave nothing is due
+  quietly : (a : Wave) (rest : List Wave) → seen n t ws ≡ a ∷ rest → (a.own ≡ true → a.till < t) → ((x : ℕ) → a.next ≤ x → t ≡ opportunity_start n a x → n.owns x ≡ true → i.ready ≡ false)
+      → IsQuiet n begin t ws i.ready
+  quietly a rest newest over passes = record {
+    own_over = λ w others e own from. own_ended w others (own_seen n is t ws w others behind e own) own;
+    passes = λ b others x begins mine. passed b others x (sym begins.newest ∙ newest) begins.order begins.now mine;
+  }
+    where
+      own_ended : (w : Wave) (others : List Wave) → seen n t ws ≡ w ∷ others → w.own ≡ true → w.till < t
+      own_ended w others e own =
+          let head = (head_is w a others rest (sym e ∙ newest)).0 in
+          let mine : a.own ≡ true = ap (λ (x : Wave). x.own) (sym head) ∙ own in
+          omega (arith, over mine, ap (λ (x : Wave). x.till) head)
+
+      passed : (b : Wave) (others : List Wave) (x : ℕ) → b ∷ others ≡ a ∷ rest → b.next ≤ x → t ≡ opportunity_start n b x → n.owns x ≡ true → i.ready ≡ false
+      passed b others x e order now mine =
+          let head = (head_is b a others rest e).0 in
+          passes x (omega (arith, order, ap (λ (y : Wave). y.next) head)) (now ∙ ap (λ (y : Wave). opportunity_start n y x) head) mine
+
+  -- nor where a newer one is caught
+  caught_quietly : (w a : Wave) (rest others : List Wave) → seen n t ws ≡ a ∷ rest → arrived t ws ≡ w ∷ a ∷ others → w.own ≡ false → t ≡ w.from + n.rise → IsQuiet n begin t ws i.ready
+  caught_quietly w a rest others newest at other at_rise = record {
+    own_over = λ v vs e own from. absurd (not_own v vs e own);
+    passes = λ b bs x begins mine. absurd (not_caught b bs begins.newest begins.none_risen);
+  }
+    where
+      not_own : (v : Wave) (vs : List Wave) → arrived t ws ≡ v ∷ vs → v.own ≡ true → ⊥
+      not_own v vs e own =
+          let head = (head_is w v (a ∷ others) vs (sym at ∙ e)).0 in
+          absurd (false≢true (sym other ∙ (ap (λ (x : Wave). x.own) head ∙ own)))
+
+      by_standing : (b : Wave) (bs : List Wave) → NewestArrived n t ws b bs → ((v : Wave) → arrived t ws ≡ v ∷ b ∷ bs → t < v.from + n.rise) → ⊥
+      by_standing b bs (is_seen e past) none =
+          let head = (head_is w b (a ∷ others) bs (sym at ∙ e)).0 in
+          let theirs : b.own ≡ false = ap (λ (x : Wave). x.own) (sym head) ∙ other in
+          let late : lag n b ≡ n.rise = rw theirs refl in
+          absurd (omega (arith, past, late, at_rise, ap (λ (x : Wave). x.from) head))
+      by_standing b bs (still_rises v e theirs come soon_on late) none =
+          let head = (head_is w v (a ∷ others) (b ∷ bs) (sym at ∙ e)).0 in
+          let before = none v e in
+          absurd (omega (arith, before, at_rise, ap (λ (x : Wave). x.from) head))
+
+      not_caught : (b : Wave) (bs : List Wave) → seen n t ws ≡ b ∷ bs → ((v : Wave) → arrived t ws ≡ v ∷ b ∷ bs → t < v.from + n.rise) → ⊥
+      not_caught b bs e none = by_standing b bs (standing n is t ws b bs behind e) none
+
   -- by what control comes to
-  next_to : (crs : Bool) (a : Wave) (rest : List Wave) (next : State × TxCmd) → seen n t ws ≡ a ∷ rest → begin < a.till → WasThere n begin (t + 1) a
+  next_to : (crs : Bool) (a : Wave) (rest : List Wave) (next : State × TxCmd) → seen n t ws ≡ a ∷ rest → begin < a.till → WasThere n begin (t + 1) a → (a.own ≡ true → a.till < t)
       → (crs ≡ false → (v : Wave) → arrived t ws ≡ v ∷ a ∷ rest → t < v.from + n.rise)
       → NextControl s n is same_owns same_count same_to t (arrived t ws) a i.ready crs next → TurnTo Quiet next
-  next_to crs a rest _ newest known there none (goes_on {st = st} (inl off) state) = quiet_to st (waits_on a rest newest there (none off) state)
-  next_to crs a rest _ newest known there none (goes_on {st = st} (inr before) state) = quiet_to st (waits_on a rest newest there (none_fading a rest before) state)
-  next_to _ a rest _ newest known there none (newer {st = st} w others e at state) = quiet_to st (catches w a others e known at state)
-  next_to _ a rest _ newest known there none (sleeps_in follower at) = absurd (never_asleep n is begin t now soon ws behind each a rest newest alive (none refl) at)
-  next_to _ a rest _ newest known there none (starts_beacon x zero all at order) =
-      beacon_to (Beacon 20) (begins_beacon a rest x (record { newest = newest; order = order; now = at; none_risen = none refl }) zero all)
-  next_to _ a rest _ newest known there none (starts_commit x mine at order ready) =
+  next_to crs a rest _ newest known there over none (goes_on {st = st} (inl off) passes state) =
+      quiet_to st (waits_on a rest newest there (none off) state (quietly a rest newest over passes))
+  next_to crs a rest _ newest known there over none (goes_on {st = st} (inr before) passes state) =
+      quiet_to st (waits_on a rest newest there (none_fading a rest before) state (quietly a rest newest over passes))
+  next_to _ a rest _ newest known there over none (newer {st = st} w others e other at state) = quiet_to st (catches w a others e known at state (caught_quietly w a rest others newest e other at))
+  next_to _ a rest _ newest known there over none (sleeps_in follower at) = absurd (never_asleep n is begin t now soon ws behind each a rest newest alive (none refl) at)
+  next_to _ a rest _ newest known there over none (starts_beacon zero at order) =
+      beacon_to (Beacon 20) (begins_beacon a rest (record { newest = newest; order = order; now = at; none_risen = none refl }) zero)
+  next_to _ a rest _ newest known there over none (starts_commit x mine at order ready) =
       let turn = turn_of part past ended bad line Quiet CommitCmd in
       subst (λ (y : Option Quarter). Comes (Commit 288 s.burst) turn.state.stage turn.state.part y) (sym (first_quarter part past ended bad line))
-      (begins_run a rest x (record { newest = newest; order = order; now = at; none_risen = none refl }) mine (drives_first part past ended bad line))
+      (begins_run a rest x (record { newest = newest; order = order; now = at; none_risen = none refl }) mine ready (drives_first part past ended bad line))
+
+  -- an own wave behind which a node waits has ended
+  waiting_over : (a : Wave) (st : State) → WaitingControl n t a st → a.own ≡ true → a.till < t
+  waiting_over a _ (listens other within) own = absurd (false≢true (sym other ∙ own))
+  waiting_over a _ (fades mine flag place over within) own = over
+  waiting_over a _ (syncs mine read over within) own = over
+  waiting_over a _ (counts k m after at some most order low coordinator) own = omega (arith, after)
 
   waiting : (a : Wave) (rest : List Wave) (st : State) → seen n t ws ≡ a ∷ rest → WasThere n begin t a → WaitingControl n t a st → TurnTo Quiet (control_row s st i)
   waiting a rest st newest there state =
       let knows = knows_of n is begin t now soon ws behind each a rest newest there in
       let wave = seen_wave n is begin t now soon ws behind each a rest newest in
-      next_to c.on a rest (control_row s st i) newest knows.there (there_next a there) (λ off. none_risen a rest newest there (shown ∙ off))
+      next_to c.on a rest (control_row s st i) newest knows.there (there_next a there) (waiting_over a st state) (λ off. none_risen a rest newest there (shown ∙ off))
       (turn_next n is begin t ws behind a rest knows s same_owns same_count same_to i c burst shown carrier receiver (none_read n now a wave) (λ over. wave.next (omega (arith, over, soon))) st state)
 
   -- a beacon has been read: the node begins to count
@@ -222,15 +284,15 @@ module _ (s : ControlSet) (n : CycleSettings) (is : IsCycleSettings n) (same_own
       let wave = seen_wave n is begin t now soon ws behind each w rest newest in
       let next : w.next ≡ 0 = wave.next (omega (arith, over, soon)) ∙ rw read refl in
       let begins : t ≡ opportunity_start n w 0 = fallen ∙ (sym (opportunity_first n w) ∙ ap (λ (x : ℕ). opportunity_start n w x) next) in
-      next_to false w rest (reach s i.ready 0) newest known (from_within (omega (arith, fallen)) long) (λ off v e. absurd (no_loop v w rest (sym at ∙ e)))
-      (from_reach s n is same_owns same_count same_to t (arrived t ws) w i.ready 0 (reach s i.ready 0) begins (omega (arith, next)) (omega (arith, fallen))
+      next_to false w rest (reach s i.ready 0) newest known (from_within (omega (arith, fallen)) long) (λ own. over) (λ off v e. absurd (no_loop v w rest (sym at ∙ e)))
+      (from_reach s n is same_owns same_count same_to t (arrived t ws) w i.ready 0 (reach s i.ready 0) begins (omega (arith, next)) (λ _. omega arith) (omega (arith, fallen))
       (reached s n is same_owns same_count same_to i.ready 0 (omega arith)))
 
-  hearing_first : (b f : Bool) (w : Wave) (rest : List Wave) → i.crs ≡ b → is_beacon i.class ≡ f → n.owns 0 ≡ false → arrived t ws ≡ w ∷ rest → max begin w.from + n.rise < t → max begin w.from + n.rise ≤ w.till
+  hearing_first : (b f : Bool) (w : Wave) (rest : List Wave) → i.crs ≡ b → is_beacon i.class ≡ f → i.ready ≡ false → n.owns 0 ≡ false → NoOwnWave begin t ws → arrived t ws ≡ w ∷ rest → max begin w.from + n.rise < t → max begin w.from + n.rise ≤ w.till
       → t ≤ w.till + n.fall → TurnTo Quiet (control_row s Early i)
-  hearing_first true f w rest e flag zero at rose long within = by_row Quiet (control_row s Early i) (Early, NoCmd) (rw e refl) (quiet_to Early (hearing zero e))
-  hearing_first false false w rest e flag zero at rose long within = by_row Quiet (control_row s Early i) (Resync, NoCmd) (rw (e, flag) refl) (quiet_to Resync (waits_on_for_beacon zero))
-  hearing_first false true w rest e flag zero at rose long within =
+  hearing_first true f w rest e flag idle zero none at rose long within = by_row Quiet (control_row s Early i) (Early, NoCmd) (rw e refl) (quiet_to Early (hearing idle zero none e))
+  hearing_first false false w rest e flag idle zero none at rose long within = by_row Quiet (control_row s Early i) (Resync, NoCmd) (rw (e, flag) refl) (quiet_to Resync (waits_on_for_beacon zero none (unready idle none)))
+  hearing_first false true w rest e flag idle zero none at rose long within =
       let fallen = has_fallen n begin t w rest (arrived t ws) c at rose long is.rise_low (sym shown ∙ e) carrier in
       by_row Quiet (control_row s Early i) (reach s i.ready 0) (rw (e, flag) refl) (synchronised w rest zero at rose long (omega (arith, within, fallen)) flag)
 
@@ -261,15 +323,16 @@ module _ (s : ControlSet) (n : CycleSettings) (is : IsCycleSettings n) (same_own
 
   -- ---- every case
 
-  pub drive_turn : (st : State) (stage : Stage) → ((e : ℕ) → SendsRun e st stage part → RunPlace i st stage part) → ControlOverWaves SendsRun n begin t ws st stage part → TurnTo stage (control_row s st i)
-  drive_turn _ _ place (recovers {q = q} zero at low) = recovering q zero at low
-  drive_turn _ _ place (waits_for_beacon zero) = waiting_for_beacon i.crs refl zero
-  drive_turn _ _ place (hears_first_wave {w = w} {rest = rest} zero at rose long within) = hearing_first i.crs (is_beacon i.class) w rest refl refl zero at rose long within
-  drive_turn _ _ place (owns_beacon {a = a} {rest = rest} {left = left} symbols zero at own flag from within time low left_is some) =
+  pub drive_turn : (st : State) (stage : Stage) → (is_active st ≡ false → i.ready ≡ false) → ((e : ℕ) → SendsRun e st stage part → RunPlace i st stage part) → ControlOverWaves SendsRun n begin t ws st stage part → TurnTo stage (control_row s st i)
+  drive_turn _ _ idle place (recovers {q = q} zero at low) = recovering q (idle refl) zero at low
+  drive_turn _ _ idle place (waits_for_beacon zero none) = waiting_for_beacon i.crs refl (idle refl) zero none
+  drive_turn _ _ idle place (hears_first_wave {w = w} {rest = rest} zero none at rose long within) =
+      hearing_first i.crs (is_beacon i.class) w rest refl refl (idle refl) zero none at rose long within
+  drive_turn _ _ idle place (owns_beacon {a = a} {rest = rest} {left = left} symbols zero at own flag from within time low left_is some) =
       beaconing a rest symbols left zero at own flag from within time low left_is some
-  drive_turn st stage place (owns_run {a = a} {rest = rest} {e = e} at own flag from within time sends) =
+  drive_turn st stage idle place (owns_run {a = a} {rest = rest} {e = e} at own flag from within time sends) =
       run_turn part past ended bad line s n begin t ws i st stage (place e sends) a rest e at own flag from within time sends
-  drive_turn st _ place (waits {a = a} {rest = rest} newest there state) = waiting a rest st newest there state
+  drive_turn st _ idle place (waits {a = a} {rest = rest} newest there state) = waiting a rest st newest there state
 
   -- ---- control goes on to take part
 
@@ -277,14 +340,14 @@ module _ (s : ControlSet) (n : CycleSettings) (is : IsCycleSettings n) (same_own
   waiting_active u a _ (listens other within) = refl
   waiting_active u a _ (fades own flag mine over within) = refl
   waiting_active u a _ (syncs own read over within) = refl
-  waiting_active u a _ (counts k m after at some most order low) = refl
+  waiting_active u a _ (counts k m after at some most order low coordinator) = refl
 
   next_active : (crs : Bool) (a : Wave) (rest : List Wave) (next : State × TxCmd) → seen n t ws ≡ a ∷ rest → (crs ≡ false → (v : Wave) → arrived t ws ≡ v ∷ a ∷ rest → t < v.from + n.rise)
       → NextControl s n is same_owns same_count same_to t (arrived t ws) a i.ready crs next → is_active next.0 ≡ true
-  next_active crs a rest _ newest none (goes_on {st = st} x state) = waiting_active (t + 1) a st state
-  next_active _ a rest _ newest none (newer {st = st} w others e at state) = waiting_active (t + 1) w st state
+  next_active crs a rest _ newest none (goes_on {st = st} x passes state) = waiting_active (t + 1) a st state
+  next_active _ a rest _ newest none (newer {st = st} w others e other at state) = waiting_active (t + 1) w st state
   next_active _ a rest _ newest none (sleeps_in follower at) = absurd (never_asleep n is begin t now soon ws behind each a rest newest alive (none refl) at)
-  next_active _ a rest _ newest none (starts_beacon x zero all at order) = refl
+  next_active _ a rest _ newest none (starts_beacon zero at order) = refl
   next_active _ a rest _ newest none (starts_commit x mine at order ready) = refl
 
   abbrev Active : State × TxCmd → Type 0
@@ -298,8 +361,8 @@ module _ (s : ControlSet) (n : CycleSettings) (is : IsCycleSettings n) (same_own
 
   pub active_stays : (st : State) (stage : Stage) → ControlOverWaves SendsRun n begin t ws st stage part → is_active st ≡ true → Active (control_row s st i)
   active_stays _ _ (recovers zero at low) on = absurd (false≢true on)
-  active_stays _ _ (waits_for_beacon zero) on = absurd (false≢true on)
-  active_stays _ _ (hears_first_wave zero at rose long within) on = absurd (false≢true on)
+  active_stays _ _ (waits_for_beacon zero none) on = absurd (false≢true on)
+  active_stays _ _ (hears_first_wave zero none at rose long within) on = absurd (false≢true on)
   active_stays _ _ (owns_beacon {left = left} symbols zero at own flag from within time low left_is some) on = cond_both (left == 1) _ _ Active (λ _. refl) (λ _. refl)
   active_stays st stage (owns_run {e = e} at own flag from within time sends) on = own_active st (sends_own e st stage part sends)
   active_stays st _ (waits {a = a} {rest = rest} newest there state) on =

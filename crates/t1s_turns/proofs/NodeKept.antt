@@ -19,7 +19,7 @@ use Rattle.plca_control.specs.declared.StatusState.TheVariants.{Inactive, Active
 use Rattle.plca_control.specs.ControlTable.{control_row, is_active}
 use Rattle.plca_control.specs.StatusTable.{status_step, status_is_ok}
 use Rattle.plca_data.specs.declared.data_path.State.{State as PathState}
-use Rattle.plca_data.specs.DataPathTable.{begun, ended, bad}
+use Rattle.plca_data.specs.DataPathTable.{ready, begun, ended, bad}
 use Rattle.t1s_mac.specs.PickedDraws.{picked_answer, picked_after}
 use Rattle.t1s_mac.specs.State.{Phase}
 use Rattle.t1s_mac.specs.declared.deference.Deference.{Deference}
@@ -110,6 +110,10 @@ pauses_there _ v _ q _ a stage _ _ line y m (fed own heads tries quarter ahead l
 pauses_there _ _ phase q _ _ stage _ _ line y m (all_given resting tx feeds ahead past_start) late e none = absurd (false≢true (sym none))
 pauses_there _ _ phase q _ _ _ _ _ _ y m (is_ending resting few) late e none = absurd (false≢true (sym none))
 pauses_there _ _ phase q _ _ _ _ _ _ y m (is_closing resting few) late e none = absurd (false≢true (sym none))
+
+-- before the node takes part no frame is ready
+asleep_unready : (v : View) (phase : Phase) (q : Queue) (d : Deference) (a : ℕ) (stage : Stage) (part : ℕ) (path : PathState) (line : List ℕ) → Joint Asleep v phase q d a stage part path line → ready path ≡ false
+asleep_unready _ phase q _ _ _ part _ _ (asleep resting) = refl
 
 -- ---- what is heard, as carrier and hit take it
 
@@ -202,6 +206,12 @@ module _ (set : NodeSet) (is_set : IsNodeSet set) (low_id : set.control.id < set
       pauses = λ m view none. pauses_there h.place _ _ _ _ _ _ _ _ _ sends.y m h.stands.joint sends.late view none;
     }
 
+    idle : is_active x.core.control.state ≡ false → ready x.core.path ≡ false
+    idle off = elim h.awake [
+      | inl sleeping ↦ asleep_unready _ _ _ _ _ _ _ _ _ (subst (λ (p : Place). Stands p x.core) sleeping h.stands).joint
+      | inr on ↦ absurd (false≢true (sym off ∙ on))
+    ]
+
     same_owns : (y : ℕ) → (cycle_of set).owns y ≡ (y == x.core.control.set.id)
     same_owns y = ap (λ (s : ControlSet). y == s.id) (sym h.set_is)
 
@@ -211,12 +221,12 @@ module _ (set : NodeSet) (is_set : IsNodeSet set) (low_id : set.control.id < set
     same_to : x.core.control.set.to ≡ (cycle_of set).to
     same_to = ap (λ (s : ControlSet). s.to) h.set_is
 
-    pub drive_is : DriveTurn SendsRun (cycle_of set) begin t ws drive.core.control.state drive.core.tx.stage drive.core.tx.part drive.quarter
+    pub drive_is : DriveTurn SendsRun (cycle_of set) begin t ws (ready x.core.path) drive.core.control.state drive.core.tx.stage drive.core.tx.part drive.quarter
     unfolding core_drive
     drive_is =
         drive_turn x.core.control.set (cycle_of set) is_cycle same_owns same_count same_to begin t now soon ws waves.behind waves.each waves.first waves.alive
         input x.carrier x.receiver.burst refl h.carrier h.receiver x.core.tx.part x.core.tx.past (ended x.core.path) (bad x.core.path) x.core.line
-        x.core.control.state x.core.tx.stage run_place h.control
+        x.core.control.state x.core.tx.stage idle run_place h.control
 
     pub active_is : drive.active ≡ is_active drive.core.control.state
     unfolding core_drive
@@ -267,7 +277,7 @@ module _ (set : NodeSet) (is_set : IsNodeSet set) (low_id : set.control.id < set
               (carrier_next (cycle_of set) is_cycle begin t started ws x.carrier apart h.carrier);
           receiver = receiver_next (cycle_of set) is_cycle begin t started x.receiver ws heard (is_some drive.quarter) apart h.receiver hears;
           no_hit = nothing_met t (arrived (t + 1) ws) heard (is_some drive.quarter) hears;
-          control = control_kept SendsRun (cycle_of set) is_cycle begin t now started early ws waves.behind waves.each waves.first heard
+          control = control_kept SendsRun (cycle_of set) is_cycle begin t now started early ws waves.behind waves.each waves.first (ready x.core.path) heard
               drive.core.control.state drive.core.tx.stage drive.core.tx.part drive.quarter drive_is hears;
           status = status_next x.status (is_active x.core.control.state) drive.active h.status (λ on. active_is ∙ stays_active on) ∙ active_is;
           place = place.to;

@@ -63,7 +63,7 @@ module _ (part : ℕ) (past : List Bool) (ended bad : Bool) (line : List ℕ) wh
 
     abbrev Drives : State → TxCmd → Type 0
     Drives st' cmd =
-        DriveTurn SendsRun n begin t ws st' (turn_of part past ended bad line stage cmd).state.stage (turn_of part past ended bad line stage cmd).state.part (turn_of part past ended bad line stage cmd).driven
+        DriveTurn SendsRun n begin t ws i.ready st' (turn_of part past ended bad line stage cmd).state.stage (turn_of part past ended bad line stage cmd).state.part (turn_of part past ended bad line stage cmd).driven
 
     pub run_turn : (a : Wave) (rest : List Wave) (e : ℕ) → arrived t ws ≡ a ∷ rest → a.own ≡ true → a.beacon ≡ false → begin ≤ a.from → t ≤ a.till → a.from + e ≡ t → SendsRun e st stage part
         → Drives next (control_row s st i).1
@@ -75,7 +75,7 @@ module _ (part : ℕ) (past : List Bool) (ended bad : Bool) (line : List ℕ) wh
             let sent = drives_on i.ready i.begun (is_closed i.tx) e (view_of st) (view_of next) stage part past ended bad line sends (row_turns s i st place.counted) place.closes e' in
             let turn = turn_of part past ended bad line stage (cmd_of (view_of next)) in
             let quarter = run_quarter a sent.y turn.state.part e turn.state.stage flag (omega (arith, sent.time)) sent.low sent.late in
-            subst (λ (q : Option Quarter). DriveTurn SendsRun n begin t ws next turn.state.stage turn.state.part q) (sym (drives_state part past ended bad line stage (cmd_of (view_of next)) ∙ quarter.is))
+            subst (λ (q : Option Quarter). DriveTurn SendsRun n begin t ws i.ready next turn.state.stage turn.state.part q) (sym (drives_state part past ended bad line stage (cmd_of (view_of next)) ∙ quarter.is))
             (run_goes_on {e = e} {q = quarter.quarter} a rest at own flag from within time sent quarter.spells)
 
         stops : own_of (view_of next) ≡ false → Drives next (cmd_of (view_of next))
@@ -83,9 +83,9 @@ module _ (part : ℕ) (past : List Bool) (ended bad : Bool) (line : List ℕ) wh
             let stop = drives_out i.ready i.begun (is_closed i.tx) e (view_of st) (view_of next) stage part past ended bad line sends (row_turns s i st place.counted) place.closes e' place.commits place.pauses in
             let drain = drains s st i (sends_own e st stage part sends) (view_own next ∙ e') in
             let turn = turn_of part past ended bad line stage (cmd_of (view_of next)) in
-            subst (λ (q : Option Quarter). DriveTurn SendsRun n begin t ws next turn.state.stage turn.state.part q) (sym stop.none)
-            (subst (λ (g : Stage). DriveTurn SendsRun n begin t ws next g turn.state.part None) (sym stop.quiet)
-            (subst (λ (x : State). DriveTurn SendsRun n begin t ws x Quiet turn.state.part None) (sym drain)
+            subst (λ (q : Option Quarter). DriveTurn SendsRun n begin t ws i.ready next turn.state.stage turn.state.part q) (sym stop.none)
+            (subst (λ (g : Stage). DriveTurn SendsRun n begin t ws i.ready next g turn.state.part None) (sym stop.quiet)
+            (subst (λ (x : State). DriveTurn SendsRun n begin t ws i.ready x Quiet turn.state.part None) (sym drain)
             (run_ends a rest at own flag from within (omega (arith, stop.long, time)))))
 
         go : (b : Bool) → own_of (view_of next) ≡ b → Drives next (cmd_of (view_of next))

@@ -58,7 +58,7 @@ module _ (n : CycleSettings) (is : IsCycleSettings n) (begin t now : ℕ) (soon 
     whole = there;
     long = long_or_lasts;
     coming = λ v e. comes_on v e (standing n is t ws a rest behind newest);
-    low = omega (arith, seen_wave.low, is.count_high);
+    low = seen_wave.low;
   }
     where
       same_list : (v : Wave) (xs : List Wave) → xs ≡ v ∷ a ∷ rest → xs ≡ a ∷ rest → ⊥

@@ -1,5 +1,5 @@
 -- A node keeps its turn in every tick: induction over the ticks of one list of waves.
-use Rattle.std.proofs.Common.{◌≡◌, ℕ, zero, suc, ◌+◌, ◌-◌, ◌==◌, ◌<◌, ◌≤◌, inl, inr, Bool, true, false, nat_lt, List, [], ◌∷◌, refl, sym, ◌∙◌, ap, arith, rules}
+use Rattle.std.proofs.Common.{◌≡◌, ℕ, zero, suc, ◌+◌, ◌-◌, ◌==◌, ◌<◌, ◌≤◌, inl, inr, Bool, true, false, nat_lt, List, [], ◌∷◌, refl, sym, ◌∙◌, ap, subst, arith, rules}
 use Rattle.std.specs.List.{All}
 use Rattle.std.proofs.lemmas.Bool.{cases_lt, cases_eq}
 use Rattle.std.proofs.lemmas.Bool.Decides.{nat_tests}
@@ -9,6 +9,9 @@ use Rattle.t1s_pcs_tx.specs.State.{Stage, Quiet}
 use Rattle.plca_control.specs.declared.State.{State}
 use Rattle.plca_control.specs.ControlTable.{control_start, is_active}
 use Rattle.plca_control.specs.StatusTable.{status_is_ok}
+use Rattle.plca_data.specs.declared.data_path.State.{State as PathState}
+use Rattle.plca_data.specs.DataPathTable.{ready}
+use Rattle.t1s_turns.specs.DriveOverWaves.{DriveOverWaves}
 use Rattle.t1s_mac.specs.PickedDraws.{picked_answer, picked_after}
 use Rattle.t1s_mac.specs.declared.picked_draws.PickedDraws.{PickedDraws}
 use Rattle.t1s_node.specs.declared.settings.NodeSet.{NodeSet}
@@ -16,7 +19,7 @@ use Rattle.t1s_node.specs.CarrierTable.{carrier_start}
 use Rattle.t1s_node.specs.Core.{CoreDrive}
 use Rattle.t1s_node.specs.Node.{NodeState, IsNodeSet, node_after_offer}
 use Rattle.t1s_pcs_rx.specs.Receiver.{receive_start}
-use Rattle.t1s_node.specs.NodeRuns.{NodeTick, node_after_offers, node_at, core_ticks}
+use Rattle.t1s_node.specs.NodeRuns.{NodeTick, node_after_offers, node_at, node_drive_at, core_ticks}
 use Rattle.t1s_node.specs.Runs.{DrawsAreBounded, IsUndisturbed, active_at}
 use Rattle.t1s_node.proofs.CoreSteps.{start_stands}
 use Rattle.t1s_node.proofs.JointPlaces.{Asleep}
@@ -62,16 +65,16 @@ offers_control : (x : NodeState) (qs : List Queued) → (node_after_offers x qs)
 offers_control x [] = refl
 offers_control x (q ∷ qs) = offers_control (node_after_offer x q) qs
 
-offers_status : (x : NodeState) (qs : List Queued) → (node_after_offers x qs).status ≡ x.status
-offers_status x [] = refl
-offers_status x (q ∷ qs) = offers_status (node_after_offer x q) qs
+offers_path : (x : NodeState) (qs : List Queued) → (node_after_offers x qs).core.path ≡ x.core.path
+offers_path x [] = refl
+offers_path x (q ∷ qs) = offers_path (node_after_offer x q) qs
 
 -- what is kept of a run says that the opportunity is the node's own
 public_control : (n : CycleSettings) (begin t : ℕ) (ws : List Wave) (st : State) (stage : Stage) (part : ℕ) → ControlOverWaves SendsRun n begin t ws st stage part
     → ControlOverWaves HasOpportunity n begin t ws st stage part
 public_control n begin t ws _ _ _ (recovers coord at low) = recovers coord at low
-public_control n begin t ws _ _ _ (waits_for_beacon coord) = waits_for_beacon coord
-public_control n begin t ws _ _ _ (hears_first_wave {w = w} {rest = rest} coord at rose long within) = hears_first_wave {w = w} {rest = rest} coord at rose long within
+public_control n begin t ws _ _ _ (waits_for_beacon coord none) = waits_for_beacon coord none
+public_control n begin t ws _ _ _ (hears_first_wave {w = w} {rest = rest} coord none at rose long within) = hears_first_wave {w = w} {rest = rest} coord none at rose long within
 public_control n begin t ws _ _ _ (owns_beacon {a = a} {rest = rest} {left = left} {part = part} symbols coord at own flag from within time low left_is some) =
     owns_beacon {a = a} {rest = rest} {left = left} {part = part} symbols coord at own flag from within time low left_is some
 public_control n begin t ws st stage part (owns_run {a = a} {rest = rest} {e = e} at own flag from within time sends) =
@@ -90,7 +93,7 @@ start_control set low high begin ws =
       | inr other ↦
           let d : (set.control.id == 0) ≡ false = grind (arith, nat_tests, other) in
           let owns : (0 == set.control.id) ≡ false = grind (arith, nat_tests, other) in
-          rw (b, d) (waits_for_beacon {part = 0} owns, refl)
+          rw (b, d) (waits_for_beacon {part = 0} owns (λ w rest e mine from. let before = come begin w rest ws e in absurd (omega (arith, before, from))), refl)
     ]
 
 module _ (bounded : DrawsAreBounded picked_answer) (set : NodeSet) (is_set : IsNodeSet set) (low_id : set.control.id < set.control.count) (room : ℕ) (draws : PickedDraws) (given : ℕ → NodeTick)
@@ -192,7 +195,8 @@ module _ (bounded : DrawsAreBounded picked_answer) (set : NodeSet) (is_set : IsN
         receiver = h.receiver;
         no_hit = h.no_hit;
         control = public_control (cycle_of set) begin (begin + u) ws _ _ _ h.control;
-        drives = drive_of SendsRun (cycle_of set) begin (begin + u) ws _ _ _ _ (drive_is set is_set low_id begin ws (begin + u) now within waves (offered u) o);
+        drives = subst (λ (p : PathState). DriveOverWaves (cycle_of set) begin (begin + u) ws (ready p) (node_drive_at (started set room draws given begin) given u).quarter) (offers_path (node u) (given u).offers)
+            (drive_of SendsRun (cycle_of set) begin (begin + u) ws (ready (offered u).core.path) _ _ _ _ (drive_is set is_set low_id begin ws (begin + u) now within waves (offered u) o));
         ok = status_next (offered u).status (is_active (offered u).core.control.state) (drives_at u within).active status
             (λ on. active_is set is_set low_id begin ws (begin + u) now within waves (offered u) o ∙ stays_active set is_set low_id begin ws (begin + u) now within waves (offered u) o on)
             ∙ sym (active_drive u within);

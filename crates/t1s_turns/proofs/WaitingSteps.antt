@@ -47,7 +47,7 @@ pub record NewestSeen (n : CycleSettings) (begin t : ℕ) (ws : List Wave) (a : 
   pub long : (a.from + n.rise ≤ a.till) ⊎ (t ≤ a.till)
   -- a newer one that has come is long or goes on
   pub coming : (v : Wave) → arrived t ws ≡ v ∷ a ∷ rest → t ≤ v.till
-  pub low : a.next ≤ 255
+  pub low : a.next ≤ n.count
 
 module _ (n : CycleSettings) (is : IsCycleSettings n) (begin t : ℕ) (ws : List Wave) (behind : AreBehind n ws) (a : Wave) (rest : List Wave) (knows : NewestSeen n begin t ws a rest) where
   lag_is : a.own ≡ false → lag n a ≡ n.rise
@@ -110,6 +110,6 @@ module _ (n : CycleSettings) (is : IsCycleSettings n) (begin t : ℕ) (ws : List
     turn_next _ (syncs own whole over within) =
         let crs = crs_is c (inr over) carrier in
         syncing s n is same_owns same_count same_to t (arrived t ws) a i read only next_is c.on crs shown own whole over within
-    turn_next _ (counts k m after at some most first low) =
+    turn_next _ (counts k m after at some most first low coordinator) =
         let crs = crs_is c (inr (omega (arith, after))) carrier in
-        counting s n is same_owns same_count same_to t (arrived t ws) a i read only next_is c.on k m crs shown after at some most first low
+        counting s n is same_owns same_count same_to t (arrived t ws) a i read only next_is c.on k m crs shown after at some most first low coordinator

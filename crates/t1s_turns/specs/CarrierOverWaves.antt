@@ -9,7 +9,8 @@ off e = record { on = false; run = e }
 abbrev pub on : ℕ → Carrier
 on m = record { on = true; run = m }
 
--- `begin` is the node's start
+-- Of a node that starts at tick `begin`, by its newest wave: none has come, or it was over before the start; carrier rises,
+-- counted from the start where the wave came before; it is on; it falls, and has fallen; or the wave was too short for it.
 pub data CarrierOverWaves (n : CycleSettings) (begin t : ℕ) : List Wave → Carrier → Type 0 where
   silent : CarrierOverWaves n begin t [] (off 0)
   missed : {w : Wave} {ws : List Wave} → w.till ≤ begin → CarrierOverWaves n begin t (w ∷ ws) (off 0)

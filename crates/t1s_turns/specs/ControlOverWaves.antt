@@ -2,29 +2,42 @@
 use Rattle.std.specs.Prelude.{◌≡◌, ℕ, ◌+◌, ◌*◌, ◌<◌, ◌≤◌, max, true, false, List, ◌∷◌}
 use Rattle.t1s_pcs_tx.specs.State.{Stage, Quiet, Beaconing}
 use Rattle.plca_control.specs.declared.State.{State}
-use Rattle.plca_control.specs.declared.State.TheVariants.{Recover, Resync, Early, Beacon, Syncing, WaitTo, Receive, Drain}
+use Rattle.plca_control.specs.declared.State.TheVariants.{Recover, Resync, Early, Beacon, Syncing, WaitTo, Receive, Commit, Drain}
 use Rattle.t1s_world.specs.Waves.{CycleSettings, Wave, opportunity_start, reads_beacon, arrived, seen}
+
+-- the states of an opportunity of ID x: its run has ended and carrier has not fallen yet; and its first tick
+abbrev pub drain_of : ℕ → State
+drain_of x = Drain
+
+abbrev pub commit_of : ℕ → ℕ → State
+commit_of x burst = Commit 288 burst
 
 -- of a node that takes part in the cycle and does not drive, by the newest wave that it has seen: it listens to another's,
 -- or its own fades, or its carrier is off and it counts
 pub data WaitingControl (n : CycleSettings) (t : ℕ) : Wave → State → Type 0 where
   listens : {a : Wave} → a.own ≡ false → t ≤ a.till + n.fall → WaitingControl n t a (Receive a.place)
-  fades : {a : Wave} → a.own ≡ true → a.beacon ≡ false → n.owns a.place ≡ true → a.till < t → t ≤ a.till + n.fall → WaitingControl n t a Drain
+  fades : {a : Wave} → a.own ≡ true → a.beacon ≡ false → n.owns a.place ≡ true → a.till < t → t ≤ a.till + n.fall → WaitingControl n t a (drain_of a.place)
   syncs : {a : Wave} → a.own ≡ true → reads_beacon a ≡ true → a.till < t → t ≤ a.till + n.fall → WaitingControl n t a Syncing
-  counts : {a : Wave} (c m : ℕ) → a.till + n.fall < t → t + m ≡ opportunity_start n a c + n.to + 1 → 1 ≤ m → m ≤ n.to → a.next ≤ c → c ≤ 254 → WaitingControl n t a (WaitTo c m)
+  counts : {a : Wave} (c m : ℕ) → a.till + n.fall < t → t + m ≡ opportunity_start n a c + n.to + 1 → 1 ≤ m → m ≤ n.to → a.next ≤ c → c ≤ 254
+      → (n.owns 0 ≡ true → c < n.count) → WaitingControl n t a (WaitTo c m)
 
 -- the node was there when wave a began, or its carrier rose within a and has fallen since
 pub data WasThere (n : CycleSettings) (begin t : ℕ) (a : Wave) : Type 0 where
   from_start : begin ≤ a.from → WasThere n begin t a
   from_within : a.till + n.fall < t → max begin a.from + n.rise ≤ a.till → WasThere n begin t a
 
--- The control of a node that starts at tick `begin`, in seven cases, the last two of which are those above; in each the
--- stage of the transmitter, and the quarter that it drove last. `Sends e st stage part` says what these are e ticks after
--- the node's own opportunity began.
+-- the newest wave that has come is none of the node's own since its start
+abbrev pub NoOwnWave : ℕ → ℕ → List Wave → Type 0
+NoOwnWave begin t ws = (w : Wave) (rest : List Wave) → arrived t ws ≡ w ∷ rest → w.own ≡ true → begin ≤ w.from → ⊥
+
+-- The control of a node that starts at tick `begin`, with the stage of its transmitter and the quarter that this drove last.
+-- Before the node takes part in the cycle it recovers, waits for a beacon, or hears its first wave; then it drives a beacon
+-- or a run of its own, or waits in one of the cases above. `Sends e st stage part` is what is said of control and transmitter
+-- e ticks after the node's own opportunity began.
 pub data ControlOverWaves (Sends : ℕ → State → Stage → ℕ → Type 0) (n : CycleSettings) (begin t : ℕ) (ws : List Wave) : State → Stage → ℕ → Type 0 where
   recovers : {q part : ℕ} → n.owns 0 ≡ true → begin + q ≡ t → q ≤ 258 * n.to → ControlOverWaves Sends n begin t ws (Recover q) Quiet part
-  waits_for_beacon : {part : ℕ} → n.owns 0 ≡ false → ControlOverWaves Sends n begin t ws Resync Quiet part
-  hears_first_wave : {part : ℕ} {w : Wave} {rest : List Wave} → n.owns 0 ≡ false → arrived t ws ≡ w ∷ rest
+  waits_for_beacon : {part : ℕ} → n.owns 0 ≡ false → NoOwnWave begin t ws → ControlOverWaves Sends n begin t ws Resync Quiet part
+  hears_first_wave : {part : ℕ} {w : Wave} {rest : List Wave} → n.owns 0 ≡ false → NoOwnWave begin t ws → arrived t ws ≡ w ∷ rest
       → max begin w.from + n.rise < t → max begin w.from + n.rise ≤ w.till → t ≤ w.till + n.fall → ControlOverWaves Sends n begin t ws Early Quiet part
   owns_beacon : {a : Wave} {rest : List Wave} {left part : ℕ} (symbols : ℕ) → n.owns 0 ≡ true → arrived t ws ≡ a ∷ rest → a.own ≡ true → a.beacon ≡ true → begin ≤ a.from → t ≤ a.till
       → a.from + (4 * symbols + part + 1) ≡ t → part < 4 → left + (4 * symbols + part) ≡ 20 → 1 ≤ left → ControlOverWaves Sends n begin t ws (Beacon left) Beaconing part

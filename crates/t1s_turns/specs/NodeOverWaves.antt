@@ -4,6 +4,7 @@ use Rattle.t1s_ring.specs.Queue.{empty_queue}
 use Rattle.t1s_pcs_tx.specs.State.{Stage}
 use Rattle.plca_control.specs.declared.State.{State}
 use Rattle.plca_control.specs.ControlTable.{is_own}
+use Rattle.plca_data.specs.DataPathTable.{ready}
 use Rattle.t1s_mac.specs.PickedDraws.{picked_answer, picked_after}
 use Rattle.t1s_mac.specs.declared.picked_draws.PickedDraws.{PickedDraws}
 use Rattle.t1s_node.specs.declared.settings.NodeSet.{NodeSet}
@@ -42,6 +43,6 @@ module _ (set : NodeSet) (room : ℕ) (draws : PickedDraws) (given : ℕ → Nod
     pub receiver : ReceiverOverWaves (cycle_of set) begin (begin + u) (arrived (begin + u) ws) (node_at started given u).receiver.class (node_at started given u).receiver.burst
     pub no_hit : (node_at started given u).hit ≡ false
     pub control : ControlOverWaves HasOpportunity (cycle_of set) begin (begin + u) ws (node_at started given u).core.control.state (node_at started given u).core.tx.stage (node_at started given u).core.tx.part
-    pub drives : DriveOverWaves (cycle_of set) begin (begin + u) ws (node_drive_at started given u).quarter
+    pub drives : DriveOverWaves (cycle_of set) begin (begin + u) ws (ready (node_at started given u).core.path) (node_drive_at started given u).quarter
     pub ok : (node_drive_at started given u).ok ≡ active_at picked_answer picked_after started.core (core_ticks started given) u
     pub undisturbed : IsUndisturbed picked_answer picked_after started.core (core_ticks started given) u

@@ -37,6 +37,8 @@ pub data LateReception (w : Wave) : Class → Burst → Type 0 where
   unsettled : {q : Quarter} → (q.sym ≡ N → w.beacon ≡ true) → LateReception w Unread (Reading (Some q) true start_phase)
   settled : {class : Class} {burst : Burst} → (class ≡ BeaconHeard → reads_beacon w ≡ true) → class ≢ Unread → is_settled burst ≡ true → LateReception w class burst
 
+-- Of a node that starts at tick `begin`, by its newest wave: none has come, or nothing of it was heard; its first symbol is
+-- being read; it goes on, and its class is known; it is over; or the node started within it.
 pub data ReceiverOverWaves (n : CycleSettings) (begin t : ℕ) : List Wave → Class → Burst → Type 0 where
   silent : ReceiverOverWaves n begin t [] Unread Outside
   unheard : {w : Wave} {ws : List Wave} → w.till ≤ begin ⊎ (t ≤ begin) ⊎ (w.own ≡ true) → ReceiverOverWaves n begin t (w ∷ ws) Unread Outside

@@ -15,18 +15,18 @@ gap_tells n rise a b h = (omega (arith, h.low), omega (arith, h.high, rise))
 module _ {Point : Type 0} (next : Drive → ℕ) (far : ℕ → Point → ℕ) (at : ℕ → Point) (n : CycleSettings) (nodes span : ℕ)
     (is_far : IsFar far at nodes span) (rise : 1 ≤ n.rise) (short : 2 * span + n.rise ≤ n.to) where
   abbrev wave : Point → Bool → Drive → Wave
-  wave p own a = wave_at next far at n p own a
+  wave p own a = wave_at next far at p own a
 
   abbrev Chained : ℕ → ℕ → List Drive → Type 0
-  Chained z first ds = IsChain next far at n nodes z first ds
+  Chained z first ds = IsChain next far at n.rise n.fall n.to nodes z first ds
 
-  opportunity_at : (p : Point) (own : Bool) (a b : Drive) → Follows next far at n a b
+  opportunity_at : (p : Point) (own : Bool) (a b : Drive) → Follows next far at n.fall n.to a b
       → b.start + far a.node p ≡ opportunity_start n (wave p own a) b.place + far a.node (at b.node)
   unfolding opportunity_start
   opportunity_at p own a b h = omega (arith, h.start)
 
   -- of one drive and the next, at a point that is within the span of the next one's node
-  pub behind : (p : Point) (own mine : Bool) (a b : Drive) → Follows next far at n a b → a.start + n.rise ≤ a.stop
+  pub behind : (p : Point) (own mine : Bool) (a b : Drive) → Follows next far at n.fall n.to a b → a.start + n.rise ≤ a.stop
       → far a.node (at b.node) ≤ span → far b.node p ≤ span
       → (mine ≡ true → (far b.node p ≡ 0) × (far a.node p ≡ far a.node (at b.node)))
       → Behind n (wave p own a) (wave p mine b)
@@ -48,12 +48,12 @@ module _ {Point : Type 0} (next : Drive → ℕ) (far : ℕ → Point → ℕ) (
       let same : b.node ≡ j = grind (arith, nat_tests, e) in
       (subst (λ k. far b.node (at k) ≡ 0) same (is_far.self b.node), ap (λ k. far a.node (at k)) (sym same))
 
-  node_of : (z first : ℕ) (a : Drive) (ds : List Drive) → Chained z first (a ∷ ds) → IsOfNode next far at n nodes a
+  pub node_of : (z first : ℕ) (a : Drive) (ds : List Drive) → Chained z first (a ∷ ds) → IsOfNode nodes a
   node_of z first a [] h = h.0
   node_of z first a (b ∷ ds) h = h.0
 
   -- what a chain is at the place of a node
-  pub are_behind : (z first j : ℕ) → j < nodes → (ds : List Drive) → Chained z first ds → AreBehind n (waves_at next far at n j ds)
+  pub are_behind : (z first j : ℕ) → j < nodes → (ds : List Drive) → Chained z first ds → AreBehind n (waves_at next far at j ds)
   are_behind z first j here [] h = tt
   are_behind z first j here (a ∷ []) h = omega (arith, h.0.some)
   are_behind z first j here (b ∷ a ∷ ds) h =
@@ -64,7 +64,7 @@ module _ {Point : Type 0} (next : Drive → ℕ) (far : ℕ → Point → ℕ) (
       )
 
   -- while a newer drive b is on its way to p, or rises there, no opportunity begins there behind a but that of b
-  pub window : (p : Point) (own : Bool) (a b : Drive) (x t : ℕ) → Follows next far at n a b
+  pub window : (p : Point) (own : Bool) (a b : Drive) (x t : ℕ) → Follows next far at n.fall n.to a b
       → far a.node (at b.node) ≤ span → far b.node p ≤ span → far a.node p ≤ span → next a ≤ x
       → b.start < t → t < b.start + far b.node p + n.rise → t ≡ opportunity_start n (wave p own a) x → x ≡ b.place
   window p own a b x t h near there past first began before is =
@@ -88,7 +88,7 @@ module _ {Point : Type 0} (next : Drive → ℕ) (far : ℕ → Point → ℕ) (
       ]
 
   -- two drives behind one: the later is behind the earlier wherever, where that one is too short for carrier
-  pub siblings : (p : Point) (a b c : Drive) → Follows next far at n a b → Follows next far at n a c → b.place < c.place → b.stop < b.start + n.rise
+  pub siblings : (p : Point) (a b c : Drive) → Follows next far at n.fall n.to a b → Follows next far at n.fall n.to a c → b.place < c.place → b.stop < b.start + n.rise
       → far a.node (at b.node) ≤ span → far b.node (at c.node) ≤ span
       → b.stop + far b.node p + 1 ≤ c.start + far c.node p
   siblings p a b c hb hc lt few near there =

@@ -7,3 +7,4 @@ pub mod Arrived
 pub mod Seen
 pub mod ChainWaves
 pub mod Overlaps
+pub mod Starts

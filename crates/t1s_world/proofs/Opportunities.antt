@@ -1,5 +1,6 @@
 -- The opportunities behind a wave.
-use Rattle.std.proofs.Common.{◌≡◌, ℕ, ◌+◌, ◌-◌, ◌*◌, ◌<◌, ◌≤◌, arith}
+use Rattle.std.proofs.Common.{inl, inr, ◌≡◌, ℕ, ◌+◌, ◌-◌, ◌*◌, ◌<◌, ◌≤◌, arith}
+use Rattle.std.proofs.lemmas.Bool.{cases_lt, cases_eq}
 use Rattle.std.proofs.Math.Nat.{mul-le-mul_right}
 use Rattle.t1s_world.specs.Waves.{CycleSettings, Wave, opportunity_start}
 
@@ -24,3 +25,13 @@ module _ (n : CycleSettings) (w : Wave) where
   pub opportunity_far : (x y : ℕ) → w.next ≤ x → x < y → opportunity_start n w x + n.to ≤ opportunity_start n w y
   unfolding opportunity_start
   opportunity_far x y h lt = let room = mul_far x y w.next n.to h lt in omega (arith, room)
+
+  -- no two opportunities behind one wave begin in one tick
+  pub opportunity_one : (x y : ℕ) → 1 ≤ n.to → w.next ≤ x → w.next ≤ y → opportunity_start n w x ≡ opportunity_start n w y → x ≡ y
+  opportunity_one x y some low high e = elim (cases_eq x y) [
+    | inl equal ↦ equal
+    | inr other ↦ elim (cases_lt x y) [
+      | inl lt ↦ let room = opportunity_far x y low lt in absurd (omega (arith, room, e, some))
+      | inr ge ↦ let room = opportunity_far y x high (omega (arith, ge, other)) in absurd (omega (arith, room, e, some))
+    ]
+  ]

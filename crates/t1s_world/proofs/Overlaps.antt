@@ -1,18 +1,17 @@
 -- No two drives of a chain overlap at a point.
 use Rattle.std.proofs.Common.{ℕ, ◌+◌, ◌<◌, ◌≤◌, List, [], ◌∷◌, arith}
-use Rattle.t1s_world.specs.Waves.{CycleSettings}
 use Rattle.t1s_world.specs.Schedule.{Drive, IsFar, NoneOverlaps, NoOverlap, Follows, IsChain}
 
-module _ {Point : Type 0} (next : Drive → ℕ) (far : ℕ → Point → ℕ) (at : ℕ → Point) (n : CycleSettings) (nodes span : ℕ) (is_far : IsFar far at nodes span) where
+module _ {Point : Type 0} (next : Drive → ℕ) (far : ℕ → Point → ℕ) (at : ℕ → Point) (rise fall to nodes span : ℕ) (is_far : IsFar far at nodes span) where
   abbrev Chained : ℕ → ℕ → List Drive → Type 0
-  Chained z first ds = IsChain next far at n nodes z first ds
+  Chained z first ds = IsChain next far at rise fall to nodes z first ds
 
   some_of : (z first : ℕ) (a : Drive) (ds : List Drive) → Chained z first (a ∷ ds) → a.start < a.stop
   some_of z first a [] h = h.0.some
   some_of z first a (b ∷ ds) h = h.0.some
 
   -- a drive has passed any point before the next one comes there
-  before : (p : Point) (a b : Drive) → Follows next far at n a b → a.stop + far a.node p ≤ b.start + far b.node p
+  before : (p : Point) (a b : Drive) → Follows next far at fall to a b → a.stop + far a.node p ≤ b.start + far b.node p
   before p a b h = let way = is_far.triangle a.node b.node p in omega (arith, h.start, way)
 
   -- and so have all that came earlier

@@ -1,8 +1,8 @@
 -- The schedule of a cable, on numbers alone: its drives, how they follow one another, and where they overlap.
 -- Of the cable it has how far a point is from a node, `far i p`, and the point of a node, `at i`; of the cycle the ticks
 -- `fall` and `to`; and `next a`, the ID with which all go on to count behind drive a.
-use Rattle.std.specs.Prelude.{◌≡◌, ℕ, ◌+◌, ◌-◌, ◌*◌, ◌<◌, ◌≤◌, Bool, true, List, [], ◌∷◌, ◌==◌, if◌then◌else◌}
-use Rattle.t1s_world.specs.Waves.{CycleSettings, Wave}
+use Rattle.std.specs.Prelude.{◌≡◌, ℕ, ◌+◌, ◌-◌, ◌*◌, ◌<◌, ◌≤◌, Bool, true, false, List, [], ◌∷◌, ◌==◌, if◌then◌else◌}
+use Rattle.t1s_world.specs.Waves.{Wave}
 
 -- a drive: its node, whether it is spelled as a beacon, the ID in whose opportunity it begins (for a beacon the count of
 -- IDs), and its ticks, from `start` on and below `stop`
@@ -42,12 +42,38 @@ abbrev pub NoOverlap : {Point : Type 0} → (ℕ → Point → ℕ) → Point �
 NoOverlap far p [] = Unit {0}
 NoOverlap far p (b ∷ ds) = NoneOverlaps far p b ds × NoOverlap far p ds
 
-module _ {Point : Type 0} (next : Drive → ℕ) (far : ℕ → Point → ℕ) (at : ℕ → Point) (n : CycleSettings) where
-  -- b follows a: it begins in the opportunity of its place, which all nodes count from the end of a as it passes them
-  pub record Follows (a b : Drive) : Type 0 where
-    pub order : next a ≤ b.place
-    pub start : b.start ≡ a.stop + far a.node (at b.node) + n.fall + (b.place - next a) * n.to
+-- the drive that a node starts in tick t, as that tick leaves it
+abbrev pub started_drive : ℕ → Bool → ℕ → ℕ → Drive
+started_drive j beacon x t = record { node = j; beacon = beacon; place = x; start = t; stop = t + 1 }
 
+-- each drive of a list
+abbrev pub EachDrive : (Drive → Type 0) → List Drive → Type 0
+EachDrive P [] = Unit {0}
+EachDrive P (a ∷ ds) = P a × EachDrive P ds
+
+-- a drive of one of the nodes, some ticks long
+pub record IsOfNode (nodes : ℕ) (a : Drive) : Type 0 where
+  pub node : a.node < nodes
+  pub some : a.start < a.stop
+
+-- the first drive: a beacon of node z that begins in tick `first`
+pub record IsFirst (z first : ℕ) (a : Drive) : Type 0 where
+  pub beacon : a.beacon ≡ true
+  pub node : a.node ≡ z
+  pub start : a.start ≡ first
+
+-- which node has which IDs: each ID is below the count, and no two nodes have one; node z has ID 0
+pub record AreOwners (owner : ℕ → ℕ → Bool) (count z : ℕ) : Type 0 where
+  pub low : (i x : ℕ) → owner i x ≡ true → x < count
+  pub one : (i k x : ℕ) → owner i x ≡ true → owner k x ≡ true → i ≡ k
+  pub coordinator : (i : ℕ) → owner i 0 ≡ true → i ≡ z
+
+-- a beacon is node z's and has the count of IDs for its place, a run has an ID of its node
+pub record IsPlaced (owner : ℕ → ℕ → Bool) (count z : ℕ) (a : Drive) : Type 0 where
+  pub beacon : a.beacon ≡ true → (a.place ≡ count) × (a.node ≡ z)
+  pub run : a.beacon ≡ false → owner a.node a.place ≡ true
+
+module _ {Point : Type 0} (next : Drive → ℕ) (far : ℕ → Point → ℕ) (at : ℕ → Point) where
   -- what a drive is at a point, where `own` tells whether the point is that of its own node
   abbrev pub wave_at : Point → Bool → Drive → Wave
   wave_at p own a = record { own = own; beacon = a.beacon; place = a.place; next = next a; from = a.start + far a.node p; till = a.stop + far a.node p }
@@ -57,30 +83,24 @@ module _ {Point : Type 0} (next : Drive → ℕ) (far : ℕ → Point → ℕ) (
   waves_at j [] = []
   waves_at j (a ∷ ds) = wave_at (at j) (a.node == j) a ∷ waves_at j ds
 
+  -- b follows a: it begins in the opportunity of its place, which all nodes count from the end of a as it passes them
+  pub record Follows (fall to : ℕ) (a b : Drive) : Type 0 where
+    pub order : next a ≤ b.place
+    pub start : b.start ≡ a.stop + far a.node (at b.node) + fall + (b.place - next a) * to
+
   -- a newer drive b behind a, which is long enough for carrier
-  pub record IsNext (a b : Drive) : Type 0 where
-    pub follows : Follows a b
-    pub long : a.start + n.rise ≤ a.stop
-
-  -- the first drive: a beacon of node z that begins in tick `first`
-  pub record IsFirst (z first : ℕ) (a : Drive) : Type 0 where
-    pub beacon : a.beacon ≡ true
-    pub node : a.node ≡ z
-    pub start : a.start ≡ first
-
-  -- a drive of one of the nodes, some ticks long
-  pub record IsOfNode (nodes : ℕ) (a : Drive) : Type 0 where
-    pub node : a.node < nodes
-    pub some : a.start < a.stop
+  pub record IsNext (rise fall to : ℕ) (a b : Drive) : Type 0 where
+    pub follows : Follows fall to a b
+    pub long : a.start + rise ≤ a.stop
 
   -- the drives of a chain, the newest first: each follows the one before it, and the oldest is the first drive
-  abbrev pub IsChain : ℕ → ℕ → ℕ → List Drive → Type 0
-  IsChain nodes z first [] = Unit {0}
-  IsChain nodes z first (a ∷ []) = IsOfNode nodes a × IsFirst z first a
-  IsChain nodes z first (b ∷ a ∷ ds) = IsOfNode nodes b × IsNext a b × IsChain nodes z first (a ∷ ds)
+  abbrev pub IsChain : ℕ → ℕ → ℕ → ℕ → ℕ → ℕ → List Drive → Type 0
+  IsChain rise fall to nodes z first [] = Unit {0}
+  IsChain rise fall to nodes z first (a ∷ []) = IsOfNode nodes a × IsFirst z first a
+  IsChain rise fall to nodes z first (b ∷ a ∷ ds) = IsOfNode nodes b × IsNext rise fall to a b × IsChain rise fall to nodes z first (a ∷ ds)
 
   -- Up to tick t the next beacon of node z is not due: none has ended its count behind the newest drive, if that has
   -- ended, and before the first drive not all ticks of recovery have passed.
-  abbrev pub IsSilent : ℕ → ℕ → ℕ → List Drive → Type 0
-  IsSilent z first t [] = t ≤ first
-  IsSilent z first t (a ∷ ds) = a.stop < t → t ≤ a.stop + far a.node (at z) + n.fall + (n.count - next a) * n.to
+  abbrev pub IsSilent : ℕ → ℕ → ℕ → ℕ → ℕ → ℕ → List Drive → Type 0
+  IsSilent fall to count z first t [] = t ≤ first
+  IsSilent fall to count z first t (a ∷ ds) = a.stop < t → t ≤ a.stop + far a.node (at z) + fall + (count - next a) * to

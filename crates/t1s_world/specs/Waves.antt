@@ -59,6 +59,13 @@ abbrev pub sounds_in : ℕ → List Wave → Bool
 sounds_in t [] = false
 sounds_in t (w ∷ ws) = nat_lt t w.till
 
+-- In tick t the opportunity of ID x begins behind a, the newest wave that control has seen, and no newer one has risen.
+pub record BeginsBehind (n : CycleSettings) (t : ℕ) (ws : List Wave) (a : Wave) (rest : List Wave) (x : ℕ) : Type 0 where
+  pub newest : seen n t ws ≡ a ∷ rest
+  pub order : a.next ≤ x
+  pub now : t ≡ opportunity_start n a x
+  pub none_risen : (v : Wave) → arrived t ws ≡ v ∷ a ∷ rest → t < v.from + n.rise
+
 -- ---- neighbours
 
 -- A newer wave b behind a. It comes in its own opportunity behind a, or late by the way between the two nodes, which is

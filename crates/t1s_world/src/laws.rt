@@ -1,5 +1,5 @@
 //! Laws of the drives of a chain, on numbers alone. Each function is empty: its contract is the law.
-ghost use Rattle.t1s_world.specs.Laws.{DrivesNeverOverlap, ChainsAreWaves, OpportunitiesAreAlone, NoneStartsBefore, GapTellsPlace};
+ghost use Rattle.t1s_world.specs.Laws.{DrivesNeverOverlap, ChainsAreWaves, OpportunitiesAreAlone, NoneStartsBefore, GapTellsPlace, StartsFollow};
 
 /// No two drives of a chain are over one point in one tick.
 pub fn drives_never_overlap()
@@ -25,4 +25,9 @@ pub fn none_starts_before()
 /// The gap between two waves tells how many opportunities lapsed in it.
 pub fn gap_tells_place()
     ensures { GapTellsPlace }
+{}
+
+/// A node that starts a drive behind the newest wave that it has seen starts it behind the newest drive of the chain.
+pub fn starts_follow()
+    ensures { StartsFollow }
 {}

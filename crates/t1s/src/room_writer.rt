@@ -1,7 +1,6 @@
 //! A writer with a fixed room in front of another one.
-ghost use Rattle.std.specs.Prelude.{◌≡◌, ◌≤◌, [], length, drop, OnOk, vec_len};
-ghost use Rattle.std.specs.Io.{WritesAtMost};
-ghost use Rattle.std.specs.Io.KnownBytes.{append_known, Keeps, WriteAppends};
+ghost use Rattle.std.specs.Prelude.{◌≡◌, ◌≤◌, [], length, drop, OnOk};
+ghost use Rattle.std.specs.Io.KnownBytes.{append_known, Keeps};
 
 use arrayvec::ArrayVec;
 use std::io::{Error, ErrorKind, Result, Write};
@@ -67,8 +66,58 @@ impl<W: Write> Write for RoomWriter<W> {
     }
 
     /// Passes on what is held, and flushes the writer after it.
-    fn flush(&mut self) -> Result<()> {
+    fn flush(&mut self) -> Result<()>
+        ensures bytes { Keeps (append_known (W.contents self.old.inner) (drop self.old.passed self.old.held.items)) (append_known (W.contents self.new.inner) (drop self.new.passed self.new.held.items)) }
+        ensures empty { OnOk result (self.new.held.items ≡ []) }
+    {
         self.pass_on()?;
         self.inner.flush()
+    }
+}
+
+#[cfg(test)]
+mod tests {
+    use super::*;
+    use std::test::Fail;
+
+    /// Counts the calls that it takes, and their octets.
+    #[derive(Drop)]
+    struct Tally {
+        calls: usize,
+        octets: usize,
+    }
+
+    impl Write for Tally {
+        fn write(&mut self, buf: &[u8]) -> Result<usize> {
+            self.calls = self.calls.saturating_add(1);
+            self.octets = self.octets.saturating_add(buf.len());
+            Ok(buf.len())
+        }
+
+        fn flush(&mut self) -> Result<()> {
+            Ok(())
+        }
+    }
+
+    #[test]
+    fn octets_are_passed_on_where_the_room_is_full_and_at_a_flush(
+        rt: HostRuntime,
+    ) -> core::result::Result<(), Fail> {
+        let piece = [0x5A; 1000];
+        let mut writer = RoomWriter::new(Tally {
+            calls: 0,
+            octets: 0,
+        });
+        for _ in 0..65 {
+            writer.write_all(&piece)?;
+        }
+        assert_eq!(rt; writer.inner.calls, 0);
+        writer.write_all(&piece)?;
+        assert_eq!(rt; writer.inner.calls, 1);
+        assert_eq!(rt; writer.inner.octets, 65_536);
+        writer.flush()?;
+        assert_eq!(rt; writer.inner.calls, 2);
+        assert_eq!(rt; writer.inner.octets, 66_000);
+        Ok(())
     }
 }

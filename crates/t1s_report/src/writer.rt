@@ -11,8 +11,10 @@ use t1s_line::{Event, Watch};
 /// the line of each event.
 #[derive(Drop)]
 pub struct Writer<'a, K: Sink> {
-    pub(crate) sink: &'a mut K,
-    pub(crate) stopped: bool,
+    sink: &'a mut K,
+    // the room for the line of an event
+    line: Line,
+    stopped: bool,
 }
 
 impl<'a, K: Sink> Writer<'a, K> {
@@ -24,6 +26,7 @@ impl<'a, K: Sink> Writer<'a, K> {
     {
         Writer {
             sink,
+            line: Line::new(),
             stopped: false,
         }
     }
@@ -57,8 +60,9 @@ impl<'a, K: Sink> Watch for Writer<'a, K> {
 
     /// Writes the line of the event.
     fn event(&mut self, e: &Event) {
-        let mut line = Line::new();
-        event_line(&mut line, e);
-        self.put(&line);
+        event_line(&mut self.line, e);
+        if !self.stopped {
+            self.stopped = self.sink.write(self.line.as_slice()).is_err();
+        }
     }
 }

@@ -2,14 +2,14 @@
 //!
 //! The layer above uses [`Decoder`]: it takes a capture octet by octet, however the octets were cut, hands out
 //! each item at its octet, and refuses at the first octet that leaves the grammar. Captures stand in
-//! `specs/Captures.antt`, what octets that begin a capture are made of in `specs/Fronts.antt`, the first offence and its
+//! `specs/Captures.antt`, what octets that begin a capture are made of in `specs/PrefixParts.antt`, the first offence and its
 //! reasons in `specs/Offences.antt`, the pieces and counts of a capture in `specs/Pieces.antt`, the items that are handed
 //! out and their octets in `specs/DecodedItems.antt`, what a decoder stands for in `specs/Stands.antt`, and what its answers
 //! say in `specs/Answers.antt`.
 //!
 //! [`CaptureWriter`] writes a capture: the octets that it gives out are together the text of the items that `cut` in
 //! `specs/Cut.antt` cuts from the ticks that were handed in. What it keeps and what it stands for is in
-//! `specs/Writing.antt`. That octets have one reading, that no capture begins another, and what is cut from ticks, in
+//! `specs/WriterTable.antt`. That octets have one reading, that no capture begins another, and what is cut from ticks, in
 //! the words of the grammar (`specs/CutRows.antt`), are laws, in the module `laws`.
 #![tactic(auto)]
 

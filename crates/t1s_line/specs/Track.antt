@@ -7,7 +7,7 @@ use Rattle.t1s_symbols.specs.declared.Symbol.{Symbol}
 use Rattle.t1s_symbols.specs.declared.Symbol.TheVariants.{N, J}
 use Rattle.t1s_world.specs.World.{Machine}
 use Rattle.t1s_mac.specs.declared.outcome.MacNote.TheVariants.{None as NoNote}
-use Rattle.t1s_pcs_rx.specs.Receive.{receive_event}
+use Rattle.t1s_pcs_rx.specs.ReceiveTable.{receive_event}
 use Rattle.t1s_node.specs.Node.{node_drive, node_hear, is_clash}
 use Rattle.t1s_line.specs.declared.track.Track.{Track}
 use Rattle.t1s_line.specs.EventRecords.{EventRecord, StatusRecord, BeaconRecord, CommitRecord, QuietRecord}

@@ -168,14 +168,12 @@ impl Decoder {
                 }
                 Step::Yields(item, stage) => {
                     progress.taken += 1;
-                    return (
-                        index + 1,
-                        Next::Held(Held {
-                            item,
-                            progress,
-                            stage,
-                        }),
-                    );
+                    let held = Held {
+                        item,
+                        progress,
+                        stage,
+                    };
+                    return (index + 1, Next::Held(held));
                 }
                 Step::Refuses(why) => return (index + 1, progress.refuses(why)),
             }

@@ -42,8 +42,8 @@ loop-index-preserved c = record {
       c.loop-index-test.true c.if-progress-eq-LIMIT.false c.in-Goes.ensures.next;
 }
 
-pub invariant_of-result-2 : goal.invariant_of-result-2
-invariant_of-result-2 c = c.loop-index.invariant.fits
+pub invariant_of-result : goal.invariant_of-result
+invariant_of-result c = c.loop-index.invariant.fits
 
 pub returns : goal.returns
 returns c =

@@ -30,7 +30,7 @@ abbrev Events : Type 0
 Events = List (Option View)
 
 -- four ticks more without an event
-no_events-suc : (n : ℕ) → no_events (suc n) ≡ None ∷ None ∷ None ∷ None ∷ no_events n
+pub no_events-suc : (n : ℕ) → no_events (suc n) ≡ None ∷ None ∷ None ∷ None ∷ no_events n
 no_events-suc n =
     let e : 4 * suc n ≡ suc (suc (suc (suc (4 * n)))) = omega arith in
     ap (λ k. replicate k None) e
@@ -59,7 +59,7 @@ goes-lead n closed past heard r h at =
     = goes-leads n 0 closed past heard r (omega arith) at in
     rw same at g
 
-goes-beacon : (n i : ℕ) (past : List Bool) (heard : List ℕ) (r : Receiver) → i + n ≤ 5 → At r (Beacon i) past heard
+pub goes-beacon : (n i : ℕ) (past : List Bool) (heard : List ℕ) (r : Receiver) → i + n ≤ 5 → At r (Beacon i) past heard
     → Goes r (flat_map quarters (replicate n N)) (no_events n) (Beacon (i + n)) past heard
 goes-beacon zero i past heard r h at =
     let same : i ≡ i + 0 = omega arith in
@@ -141,7 +141,7 @@ no_events-join a b =
     let e : 4 * a + 4 * b ≡ 4 * (a + b) = omega arith in
     replicate-append-replicate (4 * a) (4 * b) None ∙ ap (λ n. replicate n None) e
 
-length-piece : (p : Piece) → length (piece_symbols p) ≡ p.lead + (1 + (1 + length p.nibbles)) + 2
+pub length-piece : (p : Piece) → length (piece_symbols p) ≡ p.lead + (1 + (1 + length p.nibbles)) + 2
 length-piece p =
     length-append (open_symbols p.lead p.nibbles) (T ∷ p.closer ∷ [])
     ∙ ap (λ n. n + 2) (length-append (replicate p.lead J) (H ∷ H ∷ map Nibble p.nibbles)
@@ -229,10 +229,10 @@ run-told (p ∷ ps) rest closed past heard r few h most at =
     (λ k d l. h (suc k) d (omega arith)) most g.at_place)
 
 -- a receiver that hears nothing, and one at the beginning of a burst
-abbrev outside : Receiver → Receiver
+abbrev pub outside : Receiver → Receiver
 outside r = record r { burst = Outside }
 
-abbrev begun : Receiver → Receiver
+abbrev pub begun : Receiver → Receiver
 begun r = record r { class = Unread; burst = Reading None true start_phase }
 
 silence : (r : Receiver) → receive_step r Nothing false ≡ outside r
@@ -243,13 +243,13 @@ silence-none : (r : Receiver) → closing_in r Nothing false ≡ None
 unfolding closing_in
 silence-none r = refl
 
-entering : (r : Receiver) (symbols : List Symbol)
+pub entering : (r : Receiver) (symbols : List Symbol)
     → events_heard (outside r) (flat_map quarters symbols) ≡ events_heard (begun r) (flat_map quarters symbols)
 unfolding receive_step closing_in
 entering r [] = refl
 entering r (s ∷ ss) = refl
 
-at-begun : (r : Receiver) → At (begun r) start_phase r.history r.nibbles
+pub at-begun : (r : Receiver) → At (begun r) start_phase r.history r.nibbles
 at-begun r = record { class = Unread; last = None; fresh = true; is = refl }
 
 burst-told : (r : Receiver) (symbols : List Symbol) (burst : IsBurst symbols)

@@ -3,3 +3,7 @@ pub mod CompleteSymbols
 pub mod Ticks
 pub mod Bursts
 pub mod Frames
+pub mod Ended
+pub mod Refused
+pub mod Tails
+pub mod TailTicks

@@ -46,34 +46,34 @@ pub tick : (r next : Receiver) (h : Heard) (end : Option PieceEnd) (hs : List He
 tick r next h end hs e f = rw (e, f) refl
 
 module _ (class : Class) (fresh : Bool) (place : Phase) (past : List Bool) (heard : List ℕ) (s : Symbol) where
-  step-0 : (last : Option Symbol)
+  pub step-0 : (last : Option Symbol)
       → receive_step (reading class (last_of last) fresh place past heard) (One (quarter s 0)) false
       ≡ reading class (Some (quarter s 0)) fresh place past heard
   unfolding receive_step
   step-0 None = refl
   step-0 (Some t) = refl
 
-  none-0 : (last : Option Symbol)
+  pub none-0 : (last : Option Symbol)
       → closing_in (reading class (last_of last) fresh place past heard) (One (quarter s 0)) false ≡ None
   unfolding closing_in
   none-0 None = refl
   none-0 (Some t) = refl
 
-  step-1 : receive_step (reading class (Some (quarter s 0)) fresh place past heard) (One (quarter s 1)) false
+  pub step-1 : receive_step (reading class (Some (quarter s 0)) fresh place past heard) (One (quarter s 1)) false
       ≡ reading class (Some (quarter s 1)) fresh place past heard
   unfolding receive_step
   step-1 = rw (same_symbol-refl s) refl
 
-  none-1 : closing_in (reading class (Some (quarter s 0)) fresh place past heard) (One (quarter s 1)) false ≡ None
+  pub none-1 : closing_in (reading class (Some (quarter s 0)) fresh place past heard) (One (quarter s 1)) false ≡ None
   unfolding closing_in
   none-1 = rw (same_symbol-refl s) refl
 
-  step-2 : receive_step (reading class (Some (quarter s 1)) fresh place past heard) (One (quarter s 2)) false
+  pub step-2 : receive_step (reading class (Some (quarter s 1)) fresh place past heard) (One (quarter s 2)) false
       ≡ reading class (Some (quarter s 2)) fresh place past heard
   unfolding receive_step
   step-2 = rw (same_symbol-refl s) refl
 
-  none-2 : closing_in (reading class (Some (quarter s 1)) fresh place past heard) (One (quarter s 2)) false ≡ None
+  pub none-2 : closing_in (reading class (Some (quarter s 1)) fresh place past heard) (One (quarter s 2)) false ≡ None
   unfolding closing_in
   none-2 = rw (same_symbol-refl s) refl
 

@@ -5,3 +5,4 @@ pub mod ReceiveTable
 pub mod Ranges
 pub mod Leaves
 pub mod Laws
+pub mod Tails

@@ -2,9 +2,10 @@
 //!
 //! The layer above uses `PcsRx::hear`, which takes one tick: it leaves the receiver as one step of the table, and its
 //! event is the table's. Views of pieces stand in `specs/Views.antt`, what a receiver keeps in `specs/Receiver.antt`,
-//! the table in `specs/Receive.antt`, and what a view leaves once its loan is over in `specs/Leaves.antt`. That the
+//! the table in `specs/ReceiveTable.antt`, and what a view leaves once its loan is over in `specs/Leaves.antt`. That the
 //! pieces of a burst that is heard whole are handed on, each in the last tick of its closer, is a law, in the module
-//! `laws`, stated in `specs/Laws.antt`.
+//! `laws`, stated in `specs/Laws.antt`; and so is what comes of a burst that is heard from any of its ticks on, stated in
+//! `specs/Tails.antt`.
 #![tactic(auto)]
 
 pub mod laws;

@@ -37,6 +37,7 @@ impl Cable {
     ghost use Rattle.t1s_symbols.specs.Ranges.{IsHeard, IsQuarter};
     ghost use Rattle.t1s_symbols.specs.declared.Quarter.{Quarter};
     ghost use Rattle.t1s_world.specs.Hearing.{heard};
+    ghost use Rattle.t1s_base.specs.Limits.{most_nodes};
     ghost use Rattle.t1s_world.specs.World.{at_depth};
     ghost use Rattle.t1s_cable.specs.Stands.{Stands, no_puts};
 
@@ -44,7 +45,7 @@ impl Cable {
     /// all memory of the run, room for what each node puts in as many ticks as the cable spans, and the current one. A place is a distance along the cable in whole bit times.
     pub fn new(alloc: Global, places: &[u8]) -> Result<Cable, AllocError>
         requires some { 1 ≤ length places.now }
-        requires few { length places.now ≤ 16 }
+        requires few { length places.now ≤ most_nodes }
         ensures places { IfOk result (λ c. c.places ≡ places.now) }
         ensures row { IfOk result (λ c. c.row ≡ no_puts places.now) }
         ensures stands { IfOk result (λ c. Stands (no_puts places.now ∷ []) c) }

@@ -4,6 +4,7 @@ use Rattle.std.specs.Prelude.{◌==◌, ◌&&◌, slice_index, All}
 use Rattle.std.specs.List.{flat_map}
 use Rattle.std.proofs.lemmas.Bool.{cases_lt, eqb-true, ltb-true, and_parts}
 use Rattle.std.proofs.lemmas.List.Elements.{All-head}
+use Rattle.t1s_base.specs.Limits.{most_nodes}
 use Rattle.t1s_symbols.specs.declared.Symbol.{Symbol}
 use Rattle.t1s_symbols.specs.GroupTable.{group, group_in, group_table}
 use Rattle.t1s_symbols.specs.Symbols.{same_symbol}
@@ -140,8 +141,8 @@ module _ (octets : List ℕ) (o : ℕ) (high : 256 ≤ o) where
   in_version true m e = let is = eqb-true o 1 e in absurd (omega arith)
   in_version false m e = by_fail at_version BadVersion m (ap (λ (b : Bool). if b then next_is at_node else fails BadVersion) e)
 
-  in_node : (p : Bool) → AreMadeOf octets at_node → nat_lt o 16 ≡ p → HasReason octets o
-  in_node true m e = let is = ltb-true o 16 e in absurd (omega arith)
+  in_node : (p : Bool) → AreMadeOf octets at_node → nat_lt o most_nodes ≡ p → HasReason octets o
+  in_node true m e = let is = ltb-true o most_nodes e in absurd (omega arith)
   in_node false m e = by_fail at_node NodeByte m (ap (λ (b : Bool). if b then next_is (with_items o [] (in_burst no_symbols)) else fails NodeByte) e)
 
   unknown : octet_kind o ≡ Unknown
@@ -150,7 +151,7 @@ module _ (octets : List ℕ) (o : ℕ) (high : 256 ≤ o) where
   over_reason : (f : PrefixParts) → AreMadeOf octets f → HasReason octets o
   over_reason (in_magic n) m = in_header n (o == slice_index magic n) m refl
   over_reason at_version m = in_version (o == 1) m refl
-  over_reason at_node m = in_node (nat_lt o 16) m refl
+  over_reason at_node m = in_node (nat_lt o most_nodes) m refl
   over_reason (with_items node items (in_gap count)) m =
       (Place, after_header octets o node items (in_gap count) m Place (λ k. cc) (in_count node items (in_gap count) m (λ k. k)))
   over_reason (with_items node items (in_burst b)) m =

@@ -1,6 +1,7 @@
 -- The items are handed out exactly at their octets.
 use Rattle.std.proofs.Common.{◌≡◌, ◌≢◌, ℕ, ◌+◌, ◌*◌, ◌^◌, ◌<◌, ◌⊎◌, Bool, true, false, List, [], ◌∷◌, ◌++◌, length, Result, Ok, Err, Option, None, Some, refl, sym, ap, subst, ◌∙◌, inl, inr, arith, nat_lt, if◌then◌else◌}
 use Rattle.std.specs.Prelude.{◌==◌, ◌&&◌, slice_index}
+use Rattle.t1s_base.specs.Limits.{most_nodes}
 use Rattle.t1s_symbols.specs.declared.Symbol.{Symbol}
 use Rattle.t1s_symbols.specs.declared.Symbol.TheVariants.{Nibble, J, K, T, R, H, N, S}
 use Rattle.t1s_scramble.specs.Scrambled.{descrambler_after}
@@ -306,7 +307,7 @@ piece_next : (f : PrefixParts) (o node : ℕ) (items : List CaptureItem) (ps : L
 piece_next (in_magic n) o node items ps p e = absurd (magic_next n o node items (in_burst (between (ps ++ p ∷ []) 0)) e)
 piece_next at_version o node items ps p e = absurd (version_next o node items (in_burst (between (ps ++ p ∷ []) 0)) e)
 piece_next at_node o node items ps p e =
-    absurd (neither (nat_lt o 16) (next_is (with_items o [] (in_burst no_symbols))) (fails NodeByte) (next_is (piece_parts node items ps p)) (not_empty o node [] items ps p) (λ k. cc) e)
+    absurd (neither (nat_lt o most_nodes) (next_is (with_items o [] (in_burst no_symbols))) (fails NodeByte) (next_is (piece_parts node items ps p)) (not_empty o node [] items ps p) (λ k. cc) e)
 piece_next (with_items node' items' (in_gap Nothing)) o node items ps p e = cc
 piece_next (with_items node' items' (in_gap (One a))) o node items ps p e = cc
 piece_next (with_items node' items' (in_gap (Two a b))) o node items ps p e = cc
@@ -369,7 +370,7 @@ torn_next : (f : PrefixParts) (o node : ℕ) (items : List CaptureItem) (c : Beg
 torn_next (in_magic k) o node items c n e = absurd (magic_next k o node (items ++ Torn c n ∷ []) after_torn e)
 torn_next at_version o node items c n e = absurd (version_next o node (items ++ Torn c n ∷ []) after_torn e)
 torn_next at_node o node items c n e =
-    absurd (neither (nat_lt o 16) (next_is (with_items o [] (in_burst no_symbols))) (fails NodeByte) (next_is (torn_parts node items c n)) (λ k. cc) (λ k. cc) e)
+    absurd (neither (nat_lt o most_nodes) (next_is (with_items o [] (in_burst no_symbols))) (fails NodeByte) (next_is (torn_parts node items c n)) (λ k. cc) (λ k. cc) e)
 torn_next (with_items node' items' (in_gap Nothing)) o node items c n e = cc
 torn_next (with_items node' items' (in_gap (One a))) o node items c n e = cc
 torn_next (with_items node' items' (in_gap (Two a b))) o node items c n e = cc

@@ -1,6 +1,7 @@
 -- What octets that begin a capture are made of, with one octet more.
 use Rattle.std.proofs.Common.{ℕ, ◌+◌, ◌*◌, List, [], ◌∷◌, ◌++◌, length, Result, Ok, Err, Option, None, Some, nat_lt, if◌then◌else◌}
 use Rattle.std.specs.Prelude.{◌==◌, ◌&&◌, slice_index}
+use Rattle.t1s_base.specs.Limits.{most_nodes}
 use Rattle.t1s_symbols.specs.declared.Symbol.{Symbol}
 use Rattle.t1s_symbols.specs.declared.Symbol.TheVariants.{K, R, S}
 use Rattle.t1s_scramble.specs.Scrambled.{descrambler_after}
@@ -42,7 +43,7 @@ abbrev pub next_at_version : ℕ → NextParts
 next_at_version o = if o == 1 then next_is at_node else fails BadVersion
 
 abbrev pub next_at_node : ℕ → NextParts
-next_at_node o = if nat_lt o 16 then next_is (with_items o [] (in_burst no_symbols)) else fails NodeByte
+next_at_node o = if nat_lt o most_nodes then next_is (with_items o [] (in_burst no_symbols)) else fails NodeByte
 
 abbrev pub end_gap : ℕ → List CaptureItem → ℕ → NextParts
 end_gap node items n =

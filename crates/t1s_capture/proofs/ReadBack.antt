@@ -4,6 +4,7 @@ use Rattle.std.specs.Prelude.{All, ◌==◌, ◌&&◌}
 use Rattle.std.proofs.lemmas.Bool.{lt-ltb, ne_eqb}
 use Rattle.std.proofs.lemmas.List.{append-nil}
 use Rattle.std.proofs.lemmas.List.Elements.{All-head}
+use Rattle.t1s_base.specs.Limits.{most_nodes}
 use Rattle.t1s_symbols.specs.GroupTable.{group}
 use Rattle.t1s_symbols.specs.Ranges.{IsSymbol}
 use Rattle.t1s_symbols.specs.declared.Symbol.{Symbol}
@@ -261,8 +262,8 @@ ran_items (x ∷ xs) node done f r h =
           ∙ others.ran;
     }
 
-reads-header : (node : ℕ) → node < 16 → reads (header node) ≡ next_is (with_items node [] (in_burst no_symbols))
-reads-header node h = rw (lt-ltb node 16 h) refl
+reads-header : (node : ℕ) → node < most_nodes → reads (header node) ≡ next_is (with_items node [] (in_burst no_symbols))
+reads-header node h = rw (lt-ltb node most_nodes h) refl
 
 pub record AtItems (node : ℕ) (items : List CaptureItem) : Type 0 where
   pub parts : PrefixParts

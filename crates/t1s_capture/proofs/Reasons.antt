@@ -2,6 +2,7 @@
 use Rattle.std.proofs.Common.{◌≡◌, ◌≢◌, ℕ, zero, suc, ◌+◌, ◌<◌, ◌≤◌, ◌⊎◌, Bool, true, false, List, [], ◌∷◌, ◌++◌, length, take, Result, Ok, Err, None, Some, refl, sym, ap, subst, ◌∙◌, inl, inr, arith, append_assoc, nat_lt, if◌then◌else◌}
 use Rattle.std.specs.Prelude.{◌==◌, ◌&&◌, slice_index}
 use Rattle.std.proofs.lemmas.Bool.{eqb-true, eqb-false, and_parts}
+use Rattle.t1s_base.specs.Limits.{most_nodes}
 use Rattle.t1s_symbols.specs.declared.Symbol.{Symbol}
 use Rattle.t1s_symbols.specs.GroupTable.{symbol}
 use Rattle.t1s_grammar.specs.Prefixes.{Beginning, beginning_symbols, phase_of, IsTooLong}
@@ -301,7 +302,7 @@ version_refuses octets o why m e = by_test (o == 1) e
         (inr (no_capture octets at_version m (λ node items k. cc), inr ((λ (k : length octets < 4). let z : ⊥ = omega arith in z), inl (long, refl))))
 
 node_refuses : (octets : List ℕ) (o : ℕ) (why : Why) → AreMadeOf octets at_node → next_at_node o ≡ fails why → IsFirstOf grammar_reasons octets o why
-node_refuses octets o why m e = by_test (nat_lt o 16) e
+node_refuses octets o why m e = by_test (nat_lt o most_nodes) e
   where
     by_test : (p : Bool) → (if p then next_is (with_items o [] (in_burst no_symbols)) else fails NodeByte) ≡ fails why → IsFirstOf grammar_reasons octets o why
     by_test true e = absurd (no_why (with_items o [] (in_burst no_symbols)) why e)

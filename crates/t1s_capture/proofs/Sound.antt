@@ -5,6 +5,7 @@ use Rattle.std.proofs.lemmas.Grind.{common_steps}
 use Rattle.std.proofs.lemmas.Bool.{eqb-true, eqb-false, ltb-true, eq-eqb}
 use Rattle.std.proofs.lemmas.List.{append-nil, map-append}
 use Rattle.std.proofs.lemmas.List.Elements.{All-append}
+use Rattle.t1s_base.specs.Limits.{most_nodes}
 use Rattle.t1s_symbols.specs.GroupTable.{group}
 use Rattle.t1s_symbols.specs.declared.Symbol.{Symbol}
 use Rattle.t1s_grammar.specs.Burst.{IsBurst}
@@ -394,9 +395,9 @@ sound_version o g e =
 
 sound_node : (o : ℕ) (g : PrefixParts) → next_at_node o ≡ next_is g → IsNext at_node o g
 sound_node o g e =
-    let t = passes (nat_lt o 16) (next_is (with_items o [] (in_burst no_symbols))) NodeByte g e in
+    let t = passes (nat_lt o most_nodes) (next_is (with_items o [] (in_burst no_symbols))) NodeByte g e in
     becomes at_node (with_items o [] (in_burst no_symbols)) g o (same_parts (with_items o [] (in_burst no_symbols)) g t.1) (
-      ltb-true o 16 t.0,
+      ltb-true o most_nodes t.0,
       list_one (Torn no_symbols 1) (torn_item_of no_symbols (record { count = omega arith; in_range = λ k d lt. absurd (omega arith) }, omega arith)),
     )
     refl

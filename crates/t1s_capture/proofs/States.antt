@@ -3,6 +3,7 @@ use Rattle.std.proofs.Common.{◌≡◌, ℕ, zero, suc, ◌+◌, ◌*◌, Bool,
 use Rattle.std.specs.Prelude.{◌==◌, ◌&&◌, slice_index, count_by}
 use Rattle.std.proofs.lemmas.Bool.{eqb-true, ne_eqb}
 use Rattle.std.proofs.lemmas.List.{append-nil}
+use Rattle.t1s_base.specs.Limits.{most_nodes}
 use Rattle.t1s_symbols.specs.declared.Symbol.{Symbol}
 use Rattle.t1s_symbols.specs.declared.Symbol.TheVariants.{Nibble, J, K, T, R, H, N, S}
 use Rattle.t1s_scramble.specs.Scrambled.{start_history, descrambled_nibble, descrambled_nibbles, descrambler_after}
@@ -90,7 +91,7 @@ version_answered taken o = by_test (o == 1)
     by_test false = refl
 
 node_answered : (taken o : ℕ) → node_step (progress_of (header_state taken Node)) o ≡ answer taken (next_at_node o) None
-node_answered taken o = by_test (nat_lt o 16)
+node_answered taken o = by_test (nat_lt o most_nodes)
   where
     first : state (taken + 1) (counts_with [] []) start_history [] (InBurst (no_burst false)) ≡ state_of (taken + 1) (with_items o [] (in_burst no_symbols))
     first =

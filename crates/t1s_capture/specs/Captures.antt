@@ -1,6 +1,7 @@
 -- What a capture is: the items that a node heard, and the octets that they are written as.
 use Rattle.std.specs.Prelude.{◌≡◌, ◌≢◌, ℕ, ◌*◌, ◌+◌, ◌/◌, ◌%◌, ◌^◌, ◌<◌, ◌≤◌, ◌⊎◌, Bool, true, false, List, [], ◌∷◌, ◌++◌, length, map, sum_by, All}
 use Rattle.std.specs.List.{flat_map}
+use Rattle.t1s_base.specs.Limits.{most_nodes}
 use Rattle.t1s_symbols.specs.GroupTable.{group}
 use Rattle.t1s_grammar.specs.Burst.{IsBurst}
 use Rattle.t1s_grammar.specs.Prefixes.{Beginning, beginning_symbols, IsBeginning, between}
@@ -94,7 +95,7 @@ capture_text node items = begun_text node items ++ 0x21 ∷ []
 
 -- the octets are the capture of these items at this node
 pub record IsCaptureOf (octets : List ℕ) (node : ℕ) (items : List CaptureItem) : Type 0 where
-  pub node_in_range : node < 16
+  pub node_in_range : node < most_nodes
   pub valid : IsItemList items
   pub text : octets ≡ capture_text node items
 

@@ -1,5 +1,6 @@
 -- How a decoder goes on by one octet: its own table, by what it keeps.
 use Rattle.std.specs.Prelude.{ℕ, suc, List, ◌+◌, ◌*◌, ◌^◌, ◌==◌, ◌&&◌, ◌||◌, Bool, true, false, [], ◌∷◌, nat_lt, if◌then◌else◌, slice_index, Option, None, Some, Result, Ok, Err}
+use Rattle.t1s_base.specs.Limits.{most_nodes}
 use Rattle.t1s_symbols.specs.declared.Symbol.{Symbol}
 use Rattle.t1s_symbols.specs.declared.Symbol.TheVariants.{Nibble, J, K, T, R, H, N, S}
 use Rattle.t1s_symbols.specs.GroupTable.{symbol}
@@ -145,7 +146,7 @@ abbrev pub version_step : Progress → ℕ → Next
 version_step p octet = if octet == 1 then goes p Node else refuses p BadVersion
 
 abbrev pub node_step : Progress → ℕ → Next
-node_step p octet = if nat_lt octet 16 then goes p (InBurst (no_burst false)) else refuses p NodeByte
+node_step p octet = if nat_lt octet most_nodes then goes p (InBurst (no_burst false)) else refuses p NodeByte
 
 -- ---- counts of ticks
 

@@ -1,5 +1,6 @@
 -- What octets that begin a capture are made of.
 use Rattle.std.specs.Prelude.{◌≡◌, ℕ, ◌<◌, List, [], ◌∷◌, ◌++◌, take, All}
+use Rattle.t1s_base.specs.Limits.{most_nodes}
 use Rattle.t1s_grammar.specs.Prefixes.{Beginning}
 use Rattle.t1s_capture.specs.declared.stage.CountSoFar.{CountSoFar}
 use Rattle.t1s_capture.specs.declared.stage.CountSoFar.TheVariants.{Nothing, One, Two, Three}
@@ -61,7 +62,7 @@ abbrev pub ArePartsInRange : PrefixParts → Type 0
 ArePartsInRange (in_magic n) = n < 4
 ArePartsInRange at_version = Unit {0}
 ArePartsInRange at_node = Unit {0}
-ArePartsInRange (with_items node items tail) = (node < 16) × IsTail items tail
+ArePartsInRange (with_items node items tail) = (node < most_nodes) × IsTail items tail
 
 -- the octets are made of this
 pub record AreMadeOf (octets : List ℕ) (parts : PrefixParts) : Type 0 where

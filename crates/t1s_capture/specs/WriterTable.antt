@@ -1,6 +1,7 @@
 -- What a writer keeps of the ticks so far, and what it gives out: its own table.
 use Rattle.std.specs.Prelude.{◌≡◌, ℕ, ◌+◌, ◌≤◌, ◌==◌, ◌&&◌, Bool, true, false, List, [], ◌∷◌, ◌++◌, Option, None, Some, Result, Ok, Err, if◌then◌else◌}
 use Rattle.std.specs.List.{flat_map}
+use Rattle.t1s_base.specs.Limits.{most_ticks}
 use Rattle.t1s_symbols.specs.declared.Symbol.{Symbol}
 use Rattle.t1s_symbols.specs.declared.Quarter.{Quarter}
 use Rattle.t1s_symbols.specs.GroupTable.{group}
@@ -88,7 +89,7 @@ RowFits ticks (Reading r) = Unit {0}
 RowFits ticks (Torn n) = n ≤ ticks + 300
 
 pub record WriterFits (node ticks : ℕ) (row : RowSoFar) : Type 0 where
-  pub few : ticks ≤ 2000000
+  pub few : ticks ≤ most_ticks
   pub row_fits : RowFits ticks row
 
 -- ---- what a writer stands for

@@ -18,12 +18,11 @@ use crate::items::{Counts, Why};
 use crate::stage::{
     BlurSoFar, BurstSoFar, CountSoFar, OctetKind, Stage, count_of, kind_of_octet, magic_octet,
 };
+use t1s_base::MOST_NODES;
 use t1s_grammar::PlaceFault;
 use t1s_pcs_rx::{Closer, Kind, PieceReader};
 use t1s_symbols::Symbol;
 
-/// A node's number is below this.
-const NODES: u8 = 16;
 /// The ticks of a symbol.
 const SYMBOL_TICKS: u64 = 4;
 
@@ -144,7 +143,7 @@ impl Progress {
             Stage::Magic(taken) => self.in_magic(taken, octet),
             Stage::Version if octet == VERSION => self.goes(Stage::Node),
             Stage::Version => Step::Refuses(Why::Version),
-            Stage::Node if octet < NODES => self.goes(Stage::InBurst(BurstSoFar::none(false))),
+            Stage::Node if octet < MOST_NODES => self.goes(Stage::InBurst(BurstSoFar::none(false))),
             Stage::Node => Step::Refuses(Why::NodeByte),
             Stage::InGap(count) => self.in_gap(count, octet),
             Stage::InBurst(burst) => self.in_burst(burst, kind_of_octet(octet)),

@@ -1,5 +1,6 @@
 //! The row of ticks that a writer is in: a gap, or a burst that it reads.
 ghost use Rattle.std.specs.Prelude.{◌≡◌, ◌≤◌, ◌+◌, ◌<◌, ◌∷◌, ℕ, IfSome};
+ghost use Rattle.t1s_base.specs.Limits.{most_ticks};
 ghost use Rattle.t1s_symbols.specs.Ranges.{IsSymbol, IsQuarter};
 ghost use Rattle.t1s_grammar.specs.PlaceTable.{place_step};
 ghost use Rattle.t1s_capture.specs.Captures.{count_octets};
@@ -130,7 +131,7 @@ impl RowSoFar {
 
     /// A silent tick.
     pub fn hears_silence(self) -> (RowSoFar, Octets)
-        requires { RowFits 2000000 self }
+        requires { RowFits most_ticks self }
         ensures step { result ≡ silent_step self }
         ensures fits { (ticks : ℕ) → RowFits ticks self → RowFits (ticks + 1) result.0 }
     {
@@ -145,7 +146,7 @@ impl RowSoFar {
     /// A tick with this quarter, or with something that cannot be read.
     pub fn hears_sound(self, quarter: Option<Quarter>) -> (RowSoFar, Octets)
         requires range { IfSome quarter IsQuarter }
-        requires fits { RowFits 2000000 self }
+        requires fits { RowFits most_ticks self }
         ensures step { result ≡ sound_step self quarter }
         ensures fits { (ticks : ℕ) → RowFits ticks self → RowFits (ticks + 1) result.0 }
     {

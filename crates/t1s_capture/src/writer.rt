@@ -32,6 +32,7 @@ impl Model for CaptureWriter {
 }
 
 impl CaptureWriter {
+    ghost use Rattle.t1s_base.specs.Limits.{most_nodes, most_ticks};
     ghost use Rattle.std.specs.Prelude.{◌≡◌, ◌+◌, ◌<◌, ℕ, List, [], ◌∷◌, ◌++◌};
     ghost use Rattle.t1s_symbols.specs.Ranges.{IsHeard};
     ghost use Rattle.t1s_capture.specs.Captures.{header, capture_text};
@@ -41,7 +42,7 @@ impl CaptureWriter {
 
     /// A writer for this node, whose number is below 16. No tick has been handed in.
     pub fn new(node: u8) -> CaptureWriter
-        requires { node < 16 }
+        requires { node < most_nodes }
         ensures value { result ≡ record { node = node; ticks = 0; row = Empty } }
         ensures stands { WriterStands [] [] result }
     {
@@ -70,7 +71,7 @@ impl CaptureWriter {
     /// has no refusals.
     pub fn heard(&mut self, h: Heard, own: bool) -> Octets
         requires heard { IsHeard h }
-        requires fewer { self.old.ticks < 2000000 }
+        requires fewer { self.old.ticks < most_ticks }
         ensures node { self.new.node ≡ self.old.node }
         ensures ticks { self.new.ticks ≡ self.old.ticks + 1 }
         ensures stands { (ticks : List Tick) (given : List ℕ) → WriterStands ticks given self.old
@@ -106,7 +107,7 @@ impl CaptureWriter {
     /// The tick by the row.
     fn go_on(&mut self, h: Heard, own: bool) -> Octets
         requires heard { IsHeard h }
-        requires fewer { self.old.ticks < 2000000 }
+        requires fewer { self.old.ticks < most_ticks }
         ensures node { self.new.node ≡ self.old.node }
         ensures ticks { self.new.ticks ≡ self.old.ticks + 1 }
         ensures row { self.new.row ≡ (row_step self.old.row (h, own)).0 }

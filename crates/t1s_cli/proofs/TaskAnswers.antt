@@ -3,6 +3,7 @@ use Rattle.std.proofs.Common.{◌≡◌, ◌≢◌, ◌⊎◌, ◌<◌, ◌==◌
 use Rattle.std.proofs.lemmas.Bool.{eqb-true}
 use Rattle.std.proofs.lemmas.List.Folds.{Any-from_list_any}
 use Rattle.std.specs.Prelude.{Result, Ok, Err}
+use Rattle.t1s_base.specs.Limits.{most_nodes}
 use Rattle.t1s_base.specs.Causes.{FaultCountRose}
 use Rattle.t1s_base.specs.Octets.{Grows}
 use Rattle.t1s_script.specs.Script.{IsScript, IsNodeLine}
@@ -16,7 +17,7 @@ use Rattle.t1s_cli.specs.declared.status.Status.{Status}
 use Rattle.t1s_cli.specs.declared.status.Status.TheVariants.{Done, Refused, Usage, ReadFault, WriteFault, Memory}
 
 -- a node of a valid script has a number below 16
-pub node_below : (s : Script) (node : ℕ) → IsScript s → has_node s node ≡ true → node < 16
+pub node_below : (s : Script) (node : ℕ) → IsScript s → has_node s node ≡ true → node < most_nodes
 node_below s node valid has =
     let (k, line, within, at, is) = Any-from_list_any (λ (n : NodeLine). n.no == node) s.nodes has in
     let here : IsNodeLine line = rw at at (valid.nodes k line within) in

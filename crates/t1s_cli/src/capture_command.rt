@@ -1,5 +1,6 @@
 // The command `capture K`: what a node hears in a script's run, as a capture.
 ghost use Rattle.std.specs.Prelude.{◌≡◌, ◌<◌, OnOk, OnErr};
+ghost use Rattle.t1s_base.specs.Limits.{most_nodes};
 ghost use Rattle.t1s_base.specs.Causes.{HasCause};
 ghost use Rattle.t1s_base.specs.Octets.{Grows, GrowsByPrefix};
 ghost use Rattle.t1s_script.specs.Script.{IsScript};
@@ -34,7 +35,7 @@ impl Watch for Unread {
 /// Plays the segment to its end and writes what the node hears, up to a write that stops: the header, at most one
 /// text in each tick, and the last octets.
 fn write_capture<K: Sink>(seg: &mut Segment, node: u8, writer: &mut Writer<'_, K>)
-    requires node { node < 16 }
+    requires node { node < most_nodes }
     requires stands { (s : Script) × Stands s 0 seg.old }
     ensures { (s : Script) → Stands s 0 seg.old → WriterStep K.written K.faults K.finished writer.old (heard_text s node) writer.new }
 {
@@ -52,7 +53,7 @@ fn write_capture<K: Sink>(seg: &mut Segment, node: u8, writer: &mut Writer<'_, K
 /// Plays the segment to its end, and writes the capture of what the node with this number hears. After a write that
 /// stops it makes no further call on the sink, and plays no further tick. It takes no memory.
 fn record<K: Sink>(seg: &mut Segment, node: u8, sink: &mut K) -> Result<(), Failed>
-    requires node { node < 16 }
+    requires node { node < most_nodes }
     requires stands { (s : Script) × Stands s 0 seg.old }
     ensures text { (s : Script) → Stands s 0 seg.old → OnOk result (Grows (K.written sink.old) (K.written sink.new) (heard_text s node)) }
     ensures prefix { (s : Script) → Stands s 0 seg.old → OnErr result (GrowsByPrefix (K.written sink.old) (K.written sink.new) (heard_text s node)) }
@@ -75,7 +76,7 @@ pub(crate) fn capture_script<K: Sink>(
     sink: &mut K,
 ) -> Status
     requires valid { IsScript script.now }
-    requires node { node < 16 }
+    requires node { node < most_nodes }
     ensures { TextOutcome K.written K.faults K.finished Status.Done (heard_text script.now node) sink.old sink.new result }
 {
     match Segment::new(alloc, script) {

@@ -1,10 +1,11 @@
 // What the words of the command line ask for.
 ghost use Rattle.std.specs.Prelude.{◌≡◌, ◌↔◌, ◌≤◌, ℕ, Some, decimal};
+ghost use Rattle.t1s_base.specs.Limits.{last_node};
 ghost use Rattle.t1s_cli.specs.declared.commands.ScriptTask.{ScriptTask};
 ghost use Rattle.t1s_cli.specs.declared.commands.CaptureTask.{CaptureTask};
 ghost use Rattle.t1s_cli.specs.Words.{AreTask, AreCaptureTask};
 
-use t1s_base::read_number;
+use t1s_base::{LAST_NODE, read_number};
 
 /// What is done with a script that was read.
 #[derive(Clone, Copy, PartialEq, Eq, Debug)]
@@ -33,15 +34,12 @@ pub(crate) enum Command {
     OnCapture(CaptureTask),
 }
 
-/// The highest number that a node can have.
-const LAST_NODE: u64 = 15;
-
 /// The number of a node that a word writes: 0 to 15.
 fn node_number(word: &[u8]) -> Option<u8>
-    ensures { (node : ℕ) → (result ≡ Some node) ↔ ((node ≤ 15) × (word.now ≡ decimal node)) }
+    ensures { (node : ℕ) → (result ≡ Some node) ↔ ((node ≤ last_node) × (word.now ≡ decimal node)) }
 {
     match read_number(word) {
-        Some(number) if number <= LAST_NODE => Some(number as u8),
+        Some(number) if number <= u64::from(LAST_NODE) => Some(number as u8),
         _ => None,
     }
 }

@@ -1,17 +1,15 @@
 // The lines of the summary of a run.
 ghost use Rattle.std.specs.Prelude.{◌≡◌, ◌⊎◌, ◌<◌, ℕ, [], length, nat_lt, get_or, slice_get, None, IsTrue};
+ghost use Rattle.t1s_base.specs.Limits.{most_nodes};
 ghost use Rattle.t1s_script.specs.declared.script.Script.{Script};
 ghost use Rattle.t1s_segment.specs.Stands.{Stands};
 ghost use Rattle.t1s_line.specs.World.{totals_below};
 ghost use Rattle.t1s_report.specs.SummaryLines.{settled_line, node_line, summary_lines_below};
 
 use crate::fields::{clear, count, number, text};
-use t1s_base::Line;
+use t1s_base::{Line, MOST_NODES};
 use t1s_line::NodeTotals;
 use t1s_segment::Segment;
-
-/// How many numbers a node can have.
-const NODE_NUMBERS: u8 = 16;
 
 /// Replaces the content of the line by that of the first tick in which every status was OK.
 fn settled_line(out: &mut Line, settled: Option<u64>)
@@ -45,10 +43,10 @@ pub fn node_line(out: &mut Line, t: &NodeTotals)
 /// The totals of the k-th node from 0, the nodes ascending.
 fn totals_at(seg: &Segment, k: u32) -> Option<NodeTotals>
     ensures totals { (s : Script) (t : ℕ) → Stands s t seg.now → result ≡ slice_get (totals_below s t) k }
-    ensures few { (result ≡ None) ⊎ (k < 16) }
+    ensures few { (result ≡ None) ⊎ (k < most_nodes) }
 {
     let mut nodes = 0;
-    for node in 0..NODE_NUMBERS {
+    for node in 0..MOST_NODES {
         if let Some(totals) = seg.totals(node) {
             if nodes == k {
                 return Some(totals);

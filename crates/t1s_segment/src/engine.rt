@@ -26,6 +26,7 @@ pub struct Engine<N> {
 
 impl<N> Model for Engine<N> {
     ghost use Rattle.std.specs.Prelude.{◌≡◌, ◌≤◌, length};
+    ghost use Rattle.t1s_base.specs.Limits.{most_nodes};
     ghost use Rattle.t1s_segment.specs.State.{EngineState, AreHeard};
 
     ghost Value = { EngineState N };
@@ -42,7 +43,7 @@ impl<N> Model for Engine<N> {
 
     ghost invariant = { λ g. record {
       in_time : g.tick ≤ g.end;
-      few : length g.cable.places ≤ 16;
+      few : length g.cable.places ≤ most_nodes;
       nodes_len : length g.nodes.items ≡ length g.cable.places;
       totals_len : length g.totals.items ≡ length g.cable.places;
       heard_len : length g.heard.items ≡ length g.cable.places;
@@ -62,6 +63,7 @@ fn settled_after(settled: Option<u64>, tick: u64, ok: bool) -> Option<u64>
 
 impl<N: NodeMachine + Drop> Engine<N> {
     ghost use Rattle.std.specs.Prelude.{◌≡◌, ℕ, ◌+◌, ◌<◌, ◌≤◌, ◌==◌, List, length, find, IfOk, IfSome, IsTrue, ◌↔◌};
+    ghost use Rattle.t1s_base.specs.Limits.{most_nodes};
     ghost use Rattle.t1s_symbols.specs.Ranges.{IsHeard};
     ghost use Rattle.t1s_world.specs.Events.{SeesEvents};
     ghost use Rattle.t1s_world.specs.World.{past};
@@ -80,7 +82,7 @@ impl<N: NodeMachine + Drop> Engine<N> {
         end: u64,
     ) -> Result<Engine<N>, AllocError>
         requires some { 1 ≤ length lines.now }
-        requires few { length lines.now ≤ 16 }
+        requires few { length lines.now ≤ most_nodes }
         requires each { length nodes.items ≡ length lines.now }
         ensures { IfOk result (λ g. Plays (machine_by N.drive_phase N.hear_phase) lines.now nodes.items end 0 g) }
     {

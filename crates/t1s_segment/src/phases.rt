@@ -1,6 +1,7 @@
 //! The two phases of a tick, over all nodes.
 ghost use Rattle.std.specs.Prelude.{◌≡◌, ◌≤◌, ◌&&◌, List, Option, ◌∷◌, length, map};
 ghost use Rattle.t1s_symbols.specs.declared.Quarter.{Quarter};
+ghost use Rattle.t1s_base.specs.Limits.{most_nodes};
 ghost use Rattle.t1s_world.specs.Hearing.{heard};
 ghost use Rattle.t1s_world.specs.Lists.{each_with};
 ghost use Rattle.t1s_world.specs.Events.{SeesEvents};
@@ -32,7 +33,7 @@ pub fn drive_all<N: NodeMachine, W: Watch>(
     watch: &mut W,
 ) -> bool
     requires places { length cable.old.places ≡ length nodes.old }
-    requires few { length nodes.old ≤ 16 }
+    requires few { length nodes.old ≤ most_nodes }
     requires free { cable.old.row ≡ no_puts cable.old.places }
     ensures nodes { nodes.new ≡ after_drive (machine_by N.drive_phase N.hear_phase) tick nodes.old }
     ensures places { cable.new.places ≡ cable.old.places }
@@ -61,7 +62,7 @@ pub fn hear_all<N: NodeMachine>(
     requires nodes { length nodes.old ≡ length cable.now.places }
     requires totals { length totals.old ≡ length cable.now.places }
     requires last { length last.old ≡ length cable.now.places }
-    requires few { length cable.now.places ≤ 16 }
+    requires few { length cable.now.places ≤ most_nodes }
     requires in_range { AreHeard last.old }
     ensures nodes { (rows : List (List (Option Quarter))) → Stands rows cable.now →
         nodes.new ≡ after_hear (machine_by N.drive_phase N.hear_phase) tick (heard (at_depth rows) cable.now.places) 0 nodes.old }

@@ -35,7 +35,7 @@ use Rattle.t1s_capture.specs.State.{DecoderState}
 use Rattle.t1s_capture.specs.DecodedItems.{DecodedItem, BeaconItem, RunItem, BareItem, TornItem, burst_item}
 use Rattle.t1s_capture.specs.DecoderTable.{octet_kind, count_of, progress_of, refuses, goes, yields, after_octet, no_burst, with_ticks, with_torn, with_piece, with_beacon, with_bare, with_run, with_whole, whole_item, magic_step, version_step, node_step, gap_step, gap_ends, blur_step, blur_ends, burst_step_by, gap_here, end_here, burst_ends, symbol_step, symbol_taken, piece_ends, longer, torn_step_by, stage_step}
 use Rattle.t1s_capture.specs.Stands.{ends_with_gap, needs_blur, burst_stage, tail_stage, tail_symbols, piece_nibbles, tail_nibbles, views_at, counts_at, reader_at, header_state, state_of}
-use Rattle.t1s_grammar.proofs.Longer.{Taken, more, none_before}
+use Rattle.t1s_grammar.proofs.Longer.{TakesSymbol, more, none_before}
 use Rattle.t1s_grammar.specs.Longer.{with_symbol, piece_of}
 use Rattle.t1s_capture.proofs.Texts.{ends_with_gap-last}
 use Rattle.t1s_capture.proofs.Counted.{history_push, history_none, history_rests, pieces_nibbles-push, history_more, no_nibbles, nibbles_more, piece_views-push, views_none, views_after, count_push, counts_push}
@@ -336,7 +336,7 @@ end_octet_answered taken items node b h = by_burst (ends_burst (phase_of b)) ref
 
 -- ---- symbols
 
-counted_symbols : (b : Beginning) (s : Symbol) (q : Phase) → Taken b s q → symbol_count b + 1 ≡ symbol_count (with_symbol b s)
+counted_symbols : (b : Beginning) (s : Symbol) (q : Phase) → TakesSymbol b s q → symbol_count b + 1 ≡ symbol_count (with_symbol b s)
 counted_symbols b s q t =
     let e = ap length t.symbols in omega (arith, length-append (beginning_symbols b) (s ∷ []))
 
@@ -345,14 +345,14 @@ pub record StaysSame (b c : Beginning) : Type 0 where
   pub pieces : whole_pieces c ≡ whole_pieces b
   pub nibbles : last_nibbles c ≡ last_nibbles b
 
-same_burst : (items : List CaptureItem) (b : Beginning) (s : Symbol) (q : Phase) (closed : ℕ) → Taken b s q → closed ≡ length (pieces_symbols (whole_pieces (with_symbol b s))) →
+same_burst : (items : List CaptureItem) (b : Beginning) (s : Symbol) (q : Phase) (closed : ℕ) → TakesSymbol b s q → closed ≡ length (pieces_symbols (whole_pieces (with_symbol b s))) →
     InBurst (record { place = q; symbols = symbol_count b + 1; closed = closed; after_gap = ends_with_gap items }) ≡ InBurst (burst_stage items (with_symbol b s))
 same_burst items b s q closed t c =
     let e = counted_symbols b s q t in
     let p = t.phase in
     cc
 
-stays_state : (taken : ℕ) (items : List CaptureItem) (node : ℕ) (b : Beginning) (s : Symbol) (q : Phase) → Taken b s q → StaysSame b (with_symbol b s) →
+stays_state : (taken : ℕ) (items : List CaptureItem) (node : ℕ) (b : Beginning) (s : Symbol) (q : Phase) → TakesSymbol b s q → StaysSame b (with_symbol b s) →
     goes (progress_at taken items (in_burst b)) (InBurst (longer (burst_stage items b) q)) ≡ answer taken (next_is (with_items node items (in_burst (with_symbol b s)))) None
 stays_state taken items node b s q t same =
     ap More
@@ -369,7 +369,7 @@ stays_state taken items node b s q t same =
     both : {X : Type 0} (f : List Piece → List ℕ → X) → f (whole_pieces b) (last_nibbles b) ≡ f (whole_pieces (with_symbol b s)) (last_nibbles (with_symbol b s))
     both f = let a = same.pieces in let c = same.nibbles in cc
 
-nibble_state : (taken : ℕ) (items : List CaptureItem) (node : ℕ) (ps : List Piece) (lead : ℕ) (ns : List ℕ) (n : ℕ) (q : Phase) → Taken (within ps lead ns) (Nibble n) q →
+nibble_state : (taken : ℕ) (items : List CaptureItem) (node : ℕ) (ps : List Piece) (lead : ℕ) (ns : List ℕ) (n : ℕ) (q : Phase) → TakesSymbol (within ps lead ns) (Nibble n) q →
     symbol_taken (progress_at taken items (in_burst (within ps lead ns))) lead (length ns) (Nibble n) (longer (burst_stage items (within ps lead ns)) q)
     ≡ answer taken (next_is (with_items node items (in_burst (within ps lead (ns ++ n ∷ []))))) None
 nibble_state taken items node ps lead ns n q t =
@@ -407,7 +407,7 @@ closed_counts items ps p =
         let b = count_push is_good vs v in
         cc
 
-closer_state : (taken : ℕ) (items : List CaptureItem) (node : ℕ) (ps : List Piece) (lead : ℕ) (ns : List ℕ) (s : Symbol) (q : Phase) → Taken (ended_piece ps lead ns) s q →
+closer_state : (taken : ℕ) (items : List CaptureItem) (node : ℕ) (ps : List Piece) (lead : ℕ) (ns : List ℕ) (s : Symbol) (q : Phase) → TakesSymbol (ended_piece ps lead ns) s q →
     piece_ends (progress_at taken items (in_burst (ended_piece ps lead ns))) lead (length ns) s (longer (burst_stage items (ended_piece ps lead ns)) q)
     ≡ answer taken (next_is (with_items node items (in_burst (between (ps ++ piece_of lead ns s ∷ []) 0)))) (Some (piece_item items (ended_piece ps lead ns) s))
 closer_state taken items node ps lead ns s q t =

@@ -37,9 +37,9 @@ impl Model for Decoder {
 /// what the decoder has read.
 #[derive(Drop)]
 pub struct Held {
-    item: HeldItem,
     progress: Progress,
     stage: Stage,
+    item: HeldItem,
 }
 
 impl Model for Held {

@@ -1,23 +1,19 @@
 -- Each beginning goes on to a burst, and a `Place` that takes a symbol stands for the list with it.
-use Rattle.std.proofs.Common.{◌≡◌, refl, ℕ, zero, suc, ◌+◌, ◌-◌, ◌<◌, ◌≤◌, Bool, true, false, List, [], ◌∷◌, ◌++◌, length, map, replicate, Ok, Err, is_ok, nat_lt, if◌then◌else◌, sym, ap, ◌∙◌, arith, append_assoc, length-append}
-use Rattle.std.specs.Prelude.{All}
-use Rattle.std.proofs.lemmas.Grind.{common_steps, flat_map-append}
-use Rattle.std.proofs.lemmas.Bool.{ltb-true, ltb-false, eqb-true}
-use Rattle.std.proofs.lemmas.List.{append-nil, map-append, length-replicate, replicate-append-replicate}
+use Rattle.std.proofs.Common.{◌≡◌, refl, ℕ, zero, suc, ◌+◌, ◌-◌, ◌<◌, ◌≤◌, true, List, [], ◌∷◌, ◌++◌, length, map, replicate, Ok, Err, is_ok, sym, ap, ◌∙◌, arith, append_assoc, length-append}
+use Rattle.std.proofs.lemmas.Bool.{eqb-true}
+use Rattle.std.proofs.lemmas.List.{append-nil, length-replicate, replicate-append-replicate}
 use Rattle.std.proofs.lemmas.List.Elements.{All-append, All-replicate}
 use Rattle.t1s_symbols.specs.declared.Symbol.{Symbol}
-use Rattle.t1s_symbols.specs.declared.Symbol.TheVariants.{Nibble, J, K, T, R, H, N, S}
+use Rattle.t1s_symbols.specs.declared.Symbol.TheVariants.{Nibble, J, T, R, H, N}
 use Rattle.t1s_symbols.specs.Ranges.{IsSymbol}
-use Rattle.t1s_grammar.specs.Burst.{Piece, IsPieceInRange, IsCloser, open_symbols, piece_symbols, pieces_symbols, IsBurst, BeginsBurst, beacon, run, bare}
+use Rattle.t1s_grammar.specs.Burst.{Piece, IsPieceInRange, open_symbols, piece_symbols, pieces_symbols, IsBurst, BeginsBurst, beacon, run, bare}
 use Rattle.t1s_grammar.specs.Prefixes.{Beginning, beginning_symbols, IsBeginning, IsLead, ArePieces, AreNibbles, phase_of, Stands, beacon as in_beacon, between, opened, within, ended}
-use Rattle.t1s_grammar.specs.PlaceTable.{start_phase, place_step, between_step, within_step, beacon_step, ended_step, opened_step, ends_burst}
+use Rattle.t1s_grammar.specs.PlaceTable.{start_phase, place_step, ends_burst}
 use Rattle.t1s_grammar.specs.Longer.{with_symbol}
-use Rattle.t1s_grammar.proofs.Longer.{All-nil, more_pieces, ArePieces-push, open-append, refused-taken, taken-value, more}
-use Rattle.t1s_grammar.proofs.Judgements.{Judgement, taken, refused, after, ends, after-append, after-err, after-burst, after-stands, some_pieces}
+use Rattle.t1s_grammar.proofs.Longer.{All-nil, more_pieces, ArePieces-push, open-append, more}
+use Rattle.t1s_grammar.proofs.Judgements.{Judgement, after, ends, after-append, after-err, after-burst, after-stands, some_pieces}
 use Rattle.t1s_grammar.specs.declared.place.Phase.{Phase}
-use Rattle.t1s_grammar.specs.declared.place.Phase.TheVariants.{Beacon, Between, Opened, Within, Ended}
-use Rattle.t1s_grammar.specs.declared.place.PlaceFault.{PlaceFault}
-use Rattle.t1s_grammar.specs.declared.place.PlaceFault.TheVariants.{NotHere, TooLong}
+use Rattle.t1s_grammar.specs.declared.place.Phase.TheVariants.{Between}
 
 -- ---- a burst
 

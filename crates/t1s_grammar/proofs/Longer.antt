@@ -67,12 +67,12 @@ one_more : {A : Type 0} (n : ℕ) (a : A) → replicate (n + 1) a ≡ replicate 
 one_more n a = sym (replicate-append-replicate n 1 a)
 
 -- what a symbol that is taken leaves
-pub record Taken (b : Beginning) (s : Symbol) (q : Phase) : Type 0 where
+pub record TakesSymbol (b : Beginning) (s : Symbol) (q : Phase) : Type 0 where
   pub phase : phase_of (with_symbol b s) ≡ q
   pub symbols : beginning_symbols (with_symbol b s) ≡ beginning_symbols b ++ s ∷ []
   pub in_range : IsBeginning b → IsSymbol s → IsBeginning (with_symbol b s)
 
-beacon_more : (count : ℕ) (s : Symbol) (q : Phase) → beacon_step count s ≡ taken q → Taken (beacon count) s q
+beacon_more : (count : ℕ) (s : Symbol) (q : Phase) → beacon_step count s ≡ taken q → TakesSymbol (beacon count) s q
 beacon_more count N q e =
     let t = let_through (nat_lt count 5) (Beacon (count + 1)) q NotHere e in
     let few : count < 5 = ltb-true count 5 t.0 in
@@ -88,7 +88,7 @@ none_before (p ∷ ps) lead q e =
     let none : refused NotHere ≡ taken q = grind (arith, common_steps) in absurd (refused-taken NotHere q none)
 
 between_more : (ps : List Piece) (lead : ℕ) (s : Symbol) (q : Phase) → between_step (length ps) lead s ≡ taken q
-    → Taken (between ps lead) s q
+    → TakesSymbol (between ps lead) s q
 between_more ps lead J q e =
     let t = let_through (nat_lt lead 4096) (Between (length ps) (lead + 1)) q TooLong e in
     let few : lead < 4096 = ltb-true lead 4096 t.0 in
@@ -118,7 +118,7 @@ between_more ps lead N q e =
 between_more ps lead _ q e = absurd (refused-taken NotHere q e)
 
 opened_more : (ps : List Piece) (lead : ℕ) (s : Symbol) (q : Phase) → opened_step (length ps) lead s ≡ taken q
-    → Taken (opened ps lead) s q
+    → TakesSymbol (opened ps lead) s q
 opened_more ps lead H q e =
     record {
       phase = taken-value (Within (length ps) lead 0) q e;
@@ -132,7 +132,7 @@ one_below n h zero d l = h
 one_below n h (suc k) d l = absurd (omega arith)
 
 within_more : (ps : List Piece) (lead : ℕ) (ns : List ℕ) (s : Symbol) (q : Phase)
-    → within_step (length ps) lead (length ns) s ≡ taken q → Taken (within ps lead ns) s q
+    → within_step (length ps) lead (length ns) s ≡ taken q → TakesSymbol (within ps lead ns) s q
 within_more ps lead ns (Nibble n) q e =
     let t = let_through (nat_lt (length ns) 3056) (Within (length ps) lead (length ns + 1)) q TooLong e in
     let few : length ns < 3056 = ltb-true (length ns) 3056 t.0 in
@@ -169,7 +169,7 @@ close_symbols ps lead ns s =
     ∙ sym (append_assoc (pieces_symbols ps ++ open_symbols lead ns) (T ∷ []) (s ∷ []) ∙ append_assoc (pieces_symbols ps) (open_symbols lead ns) (T ∷ s ∷ []))
 
 closed : (ps : List Piece) (lead : ℕ) (ns : List ℕ) (s : Symbol) (q : Phase) → IsCloser s
-    → taken (Between (length ps + 1) 0) ≡ taken q → Taken (ended ps lead ns) s q
+    → taken (Between (length ps + 1) 0) ≡ taken q → TakesSymbol (ended ps lead ns) s q
 closed ps lead ns s q c e =
     let long : length (ps ++ piece_of lead ns s ∷ []) ≡ length ps + 1 = length-append ps (piece_of lead ns s ∷ []) in
     record {
@@ -189,13 +189,13 @@ closed ps lead ns s q c e =
     }
 
 ended_more : (ps : List Piece) (lead : ℕ) (ns : List ℕ) (s : Symbol) (q : Phase) → ended_step (length ps) s ≡ taken q
-    → Taken (ended ps lead ns) s q
+    → TakesSymbol (ended ps lead ns) s q
 ended_more ps lead ns R q e = closed ps lead ns R q tt e
 ended_more ps lead ns K q e = closed ps lead ns K q tt e
 ended_more ps lead ns S q e = closed ps lead ns S q tt e
 ended_more ps lead ns _ q e = absurd (refused-taken NotHere q e)
 
-pub more : (b : Beginning) (s : Symbol) (q : Phase) → place_step (phase_of b) s ≡ taken q → Taken b s q
+pub more : (b : Beginning) (s : Symbol) (q : Phase) → place_step (phase_of b) s ≡ taken q → TakesSymbol b s q
 more (beacon count) s q e = beacon_more count s q e
 more (between ps lead) s q e = between_more ps lead s q e
 more (opened ps lead) s q e = opened_more ps lead s q e

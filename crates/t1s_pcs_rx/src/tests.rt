@@ -13,9 +13,9 @@ const CUT: u8 = 0x19;
 /// A piece without its frame: its lead, nibbles, closer and kind, and the length of the frame.
 type Shown = (u16, u16, Closer, Kind, usize);
 
-/// What ticks told: how many pieces, the last of these, the tick of it, and whether its frame was the wanted one.
+/// The pieces of some ticks: how many pieces, the last of these, the tick of it, and whether its frame was the wanted one.
 #[derive(Clone, Copy)]
-struct Told {
+struct PieceRecord {
     pieces: u16,
     last: Option<Shown>,
     tick: u64,
@@ -36,8 +36,8 @@ fn quarter(group: u8, part: u8) -> Heard
 }
 
 /// Hears groups, quarter by quarter.
-fn hear_groups(rx: &mut PcsRx, groups: &[u8], frame: &[u8]) -> Told {
-    let mut told = Told {
+fn hear_groups(rx: &mut PcsRx, groups: &[u8], frame: &[u8]) -> PieceRecord {
+    let mut told = PieceRecord {
         pieces: 0,
         last: None,
         tick: 0,
@@ -75,7 +75,7 @@ fn back(groups: &[u8], count: usize) -> &[u8] {
 }
 
 /// Hears groups after nothing.
-fn hear_burst(rx: &mut PcsRx, groups: &[u8], frame: &[u8]) -> Told {
+fn hear_burst(rx: &mut PcsRx, groups: &[u8], frame: &[u8]) -> PieceRecord {
     let _ = rx.hear(Heard::Nothing, false);
     hear_groups(rx, groups, frame)
 }

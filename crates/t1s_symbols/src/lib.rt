@@ -138,6 +138,8 @@ pub fn group_of(s: Symbol) -> u8
 
 /// The symbol of a 5B group. It is None for silence (0x1F), for the eight groups that stand for
 /// nothing, and for every number above 0x1F.
+// Kept apart from its callers, it is compiled to a look-up and not to a jump.
+#[inline(never)]
 #[tactic(auto, unfolding(crate::specs::GroupTable::IsPair, crate::specs::GroupTable::symbol))]
 pub fn symbol_of(group: u8) -> Option<Symbol>
     ensures symbol { result ≡ symbol group }

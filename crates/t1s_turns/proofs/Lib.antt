@@ -21,3 +21,4 @@ pub mod OwnRunClose
 pub mod OwnRunParts
 pub mod OwnRunWhole
 pub mod OwnRunLaw
+pub mod FirstFrameQuiet

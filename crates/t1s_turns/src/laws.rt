@@ -1,4 +1,5 @@
 //! Laws of one node over the waves that pass it. Each function is empty: its contract is the law.
+ghost use Rattle.t1s_turns.specs.FirstFrame.{WaitsForQuiet};
 ghost use Rattle.t1s_turns.specs.Laws.{KeepsTurns};
 ghost use Rattle.t1s_turns.specs.OwnRun.{OwnsARun};
 
@@ -13,4 +14,9 @@ pub fn keeps_turns()
 /// leaves in it.
 pub fn owns_a_run<D: Draws>()
     ensures { OwnsARun D.answer D.after }
+{}
+
+/// Only carrier and the node's own opportunity keep a frame that the MAC has not begun from quiet.
+pub fn waits_for_quiet<D: Draws>()
+    ensures { WaitsForQuiet D.answer D.after }
 {}

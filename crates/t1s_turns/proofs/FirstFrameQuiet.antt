@@ -1,10 +1,9 @@
 -- A first frame that the MAC has not begun: the node is in Idle, or holds its own opportunity.
-use Rattle.std.proofs.Common.{◌≡◌, ℕ, zero, suc, ◌+◌, ◌<◌, ◌≤◌, ◌⊎◌, inl, inr, Bool, true, false, if◌then◌else◌, nat_lt, List, length, refl, sym, ◌∙◌, ap, subst, arith, rules}
+use Rattle.std.proofs.Common.{◌≡◌, ℕ, suc, ◌+◌, ◌<◌, ◌⊎◌, inl, inr, Bool, true, false, nat_lt, List, length, refl, sym, ◌∙◌, ap, subst, arith, rules}
 use Rattle.std.proofs.lemmas.Bool.{false≢true}
 use Rattle.std.proofs.lemmas.Bool.Decides.{nat_tests}
 use Rattle.t1s_ring.specs.Queue.{Queue, empty_queue}
 use Rattle.t1s_pcs_tx.specs.State.{Stage}
-use Rattle.plca_control.specs.State.{ControlState}
 use Rattle.plca_control.specs.declared.ControlSet.{ControlSet}
 use Rattle.plca_data.specs.declared.DataIn.{DataIn}
 use Rattle.plca_data.specs.declared.data_path.State.{State}
@@ -104,8 +103,8 @@ module _ {D : Type 0} (answer : D → ℕ → ℕ) (after : D → D) (set : Cont
       let heard : is_silent (found (suc t)).path ≡ false = next_keep answer after start given_at (λ _ _ path _. is_silent path ≡ false) t (heard_left t active) in
       let idle : (found (suc t)).path ≡ Idle = idle_path run.place _ _ _ _ _ _ _ _ _ tick.found.joint first.at_rest first.fresh away heard in
       let row = rest_row (found (suc t)).mac.phase (found (suc t)).mac.queue (found (suc t)).mac.attempts
-          (may_start (found (suc t)).mac.deference (carrier (found (suc t)).path (given_at (suc t)).reading.crs)) (collision (found (suc t)).path)
-          (answer (found (suc t)).mac.draws ((found (suc t)).mac.attempts + 1)) first.at_rest first.some in (
+      (may_start (found (suc t)).mac.deference (carrier (found (suc t)).path (given_at (suc t)).reading.crs)) (collision (found (suc t)).path)
+      (answer (found (suc t)).mac.draws ((found (suc t)).mac.attempts + 1)) first.at_rest first.some in (
         ap (λ (st : State). carrier st (given_at (suc t)).reading.crs) idle ∙ quiet,
         subst (λ (phase : Phase). (is_first_nibble phase ≡ true) ⊎ (phase ≡ Deferring)) (sym (phase_left (suc t))) row,
       )

@@ -22,3 +22,5 @@ pub mod OwnRunParts
 pub mod OwnRunWhole
 pub mod OwnRunLaw
 pub mod FirstFrameQuiet
+pub mod QueueOrder
+pub mod LeavingsOnce

@@ -6,3 +6,4 @@ pub mod NodeOverWaves
 pub mod Laws
 pub mod OwnRun
 pub mod FirstFrame
+pub mod Leavings

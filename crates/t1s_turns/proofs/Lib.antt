@@ -21,3 +21,6 @@ pub mod OwnRunClose
 pub mod OwnRunParts
 pub mod OwnRunWhole
 pub mod OwnRunLaw
+pub mod FirstFrameQuiet
+pub mod QueueOrder
+pub mod LeavingsOnce

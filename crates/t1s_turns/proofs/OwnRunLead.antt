@@ -1,6 +1,6 @@
 -- The J before a piece of an own run: from the tick in which the opportunity begins, or in which it goes on after a
 -- piece, to the first pop, or to the end of the opportunity.
-use Rattle.std.proofs.Common.{◌≡◌, ℕ, zero, suc, ◌+◌, ◌-◌, ◌*◌, ◌==◌, ◌≤◌, Bool, true, false, IsTrue, if◌then◌else◌, Option, Some, None, List, [], ◌∷◌, ◌++◌, take, replicate, refl, sym, ◌∙◌, ap, subst, arith, rules, append_assoc, append-nil}
+use Rattle.std.proofs.Common.{◌≡◌, ℕ, zero, suc, ◌+◌, ◌-◌, ◌*◌, ◌==◌, ◌≤◌, Bool, true, false, IsTrue, Option, Some, None, List, [], ◌∷◌, ◌++◌, take, replicate, refl, sym, ◌∙◌, ap, subst, arith, rules, append_assoc, append-nil}
 use Rattle.std.proofs.lemmas.Bool.{false≢true}
 use Rattle.std.proofs.lemmas.Bool.Decides.{nat_tests}
 use Rattle.t1s_symbols.specs.declared.Quarter.{Quarter}
@@ -9,7 +9,7 @@ use Rattle.t1s_ring.specs.Queue.{Queue}
 use Rattle.t1s_ring.specs.declared.queued.Queued.{Queued}
 use Rattle.t1s_pcs_tx.specs.declared.TxIn.{TxIn}
 use Rattle.t1s_pcs_tx.specs.State.{TxState, Stage, Quiet, Committing, is_closed, quarter_of}
-use Rattle.t1s_pcs_tx.specs.TransmitTable.{transmit_step, at_boundary, chosen_turn, choice_after, turn_to}
+use Rattle.t1s_pcs_tx.specs.TransmitTable.{transmit_step, at_boundary}
 use Rattle.t1s_pcs_tx.specs.Runs.{quarters, all_quarters}
 use Rattle.plca_control.specs.declared.ControlSet.{ControlSet}
 use Rattle.plca_control.specs.declared.ControlIn.{ControlIn}
@@ -110,15 +110,6 @@ goes_on_after f ready sending closed _ _ _ _ phase q _ _ _ _ _ _ v' phase' q' d'
 goes_on_after f ready sending closed _ _ _ v phase q d a stage part path line v' phase' q' d' a' stage' part' path' line' h over (closes_on less) h' turns own = absurd (omega (arith, less))
 
 -- ---- the transmitter
-
-pub quarter-of_turn : (s : TxState) (inp : TxIn) (line : List ℕ) → (transmit_step s inp line).driven ≡ quarter_of (transmit_step s inp line).state
-unfolding transmit_step
-quarter-of_turn s inp line = go (at_boundary s)
-  where
-    go : (b : Bool) → (if b then chosen_turn (choice_after s.stage s.past inp line) else turn_to (record s { part = s.part + 1 }) line).driven
-        ≡ quarter_of (if b then chosen_turn (choice_after s.stage s.past inp line) else turn_to (record s { part = s.part + 1 }) line).state
-    go true = refl
-    go false = refl
 
 pub boundary_next : (s : TxState) (inp : TxIn) (line : List ℕ) → IsTrue (at_boundary s) → (transmit_step s inp line).state.part ≡ 0
 unfolding transmit_step

@@ -9,7 +9,7 @@ use Rattle.t1s_pcs_tx.specs.TransmitTable.{at_boundary, report_of}
 use Rattle.t1s_pcs_tx.specs.Runs.{all_quarters}
 use Rattle.plca_control.specs.State.{ControlState}
 use Rattle.plca_control.specs.ControlTable.{is_own}
-use Rattle.plca_data.specs.DataPathTable.{ready, begun}
+use Rattle.plca_data.specs.DataPathTable.{ready, begun, ended, bad}
 use Rattle.t1s_mac.specs.State.{number_of}
 use Rattle.t1s_node.specs.Core.{Core, control_in}
 use Rattle.t1s_node.specs.Runs.{CoreTick, DrawsAreBounded, IsUndisturbed, found_at, left_at, drive_at, own_at, leaves_at}
@@ -19,10 +19,11 @@ use Rattle.t1s_node.proofs.NoPiece.{Free}
 use Rattle.t1s_node.proofs.RunPlaces.{RunAt, Began, Since, ticks, after_tick, after_place}
 use Rattle.t1s_node.proofs.View.{View, Away, view_of, own_of, view_own}
 use Rattle.t1s_turns.specs.OwnRun.{quarters_from}
+use Rattle.t1s_turns.proofs.TransmitterTurns.{drives_state}
 use Rattle.t1s_turns.proofs.OwnRunTx.{TxAt, silent, in_beacon, in_own, late_free}
 use Rattle.t1s_turns.proofs.OwnRunTicks.{tx_in, tx_left, quarter_is, own_is, control_left, next_keep, turns_at, TxFound, TxLeft, tx_leaves}
 use Rattle.t1s_turns.proofs.OwnRunPiece.{quarters_from-append}
-use Rattle.t1s_turns.proofs.OwnRunLead.{LeadWay, LeadStep, nearer, pops, lapses, lead_step, quarter-of_turn, boundary_next, inner_next, inner_stage, budget, budget_stays, syncs, sync_at, syncs_more, whole_next, sync_quarter, commit_boundary}
+use Rattle.t1s_turns.proofs.OwnRunLead.{LeadWay, LeadStep, nearer, pops, lapses, lead_step, boundary_next, inner_next, inner_stage, budget, budget_stays, syncs, sync_at, syncs_more, whole_next, sync_quarter, commit_boundary}
 
 no_first_h : (s : TxState) → s.stage ≡ Committing → first_h_begins s ≡ false
 no_first_h s e = rw e refl
@@ -103,7 +104,7 @@ module _ {D : Type 0} (answer : D → ℕ → ℕ) (after : D → D) (bounded : 
 
   pub quarter_left : (t : ℕ) → (drive_at answer after start given t).quarter ≡ quarter_of (left t).tx
   quarter_left t =
-      quarter_is answer after start given t ∙ quarter-of_turn (found t).tx (tx_in answer after start given t) (found t).line
+      quarter_is answer after start given t ∙ drives_state (found t).tx.part (found t).tx.past (ended (found t).path) (bad (found t).path) (found t).line (found t).tx.stage (drive_at answer after start given t).cmd
       ∙ ap quarter_of (sym (tx_left answer after start given t))
 
   pub silent_tick : (t : ℕ) → own_of (view_of (left t).control.state) ≡ true → (left t).tx.stage ≡ Committing → Silent t

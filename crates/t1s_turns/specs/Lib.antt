@@ -5,3 +5,5 @@ pub mod DriveOverWaves
 pub mod NodeOverWaves
 pub mod Laws
 pub mod OwnRun
+pub mod FirstFrame
+pub mod Leavings

@@ -1,5 +1,7 @@
 //! Laws of one node over the waves that pass it. Each function is empty: its contract is the law.
+ghost use Rattle.t1s_turns.specs.FirstFrame.{WaitsForQuiet};
 ghost use Rattle.t1s_turns.specs.Laws.{KeepsTurns};
+ghost use Rattle.t1s_turns.specs.Leavings.{LeavesOnce};
 ghost use Rattle.t1s_turns.specs.OwnRun.{OwnsARun};
 
 use t1s_mac::Draws;
@@ -13,4 +15,14 @@ pub fn keeps_turns()
 /// leaves in it.
 pub fn owns_a_run<D: Draws>()
     ensures { OwnsARun D.answer D.after }
+{}
+
+/// Only carrier and the node's own opportunity keep a frame that the MAC has not begun from quiet.
+pub fn waits_for_quiet<D: Draws>()
+    ensures { WaitsForQuiet D.answer D.after }
+{}
+
+/// No number leaves twice, where the numbers of the offers ascend by some rank.
+pub fn leaves_once<D: Draws>()
+    ensures { LeavesOnce D.answer D.after }
 {}

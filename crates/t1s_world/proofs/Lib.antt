@@ -8,3 +8,4 @@ pub mod Seen
 pub mod ChainWaves
 pub mod Overlaps
 pub mod Starts
+pub mod CycleWaves

@@ -9,3 +9,4 @@ pub mod ChainWaves
 pub mod Overlaps
 pub mod Starts
 pub mod CycleWaves
+pub mod HeardAlone

@@ -46,7 +46,8 @@ GapTellsPlace =
 -- seen, starts it behind the newest drive of the chain: what it starts follows that.
 abbrev pub StartsFollow : Type 0
 StartsFollow =
-    (next : Drive → ℕ) (far : ℕ → ℕ → ℕ) (at : ℕ → ℕ) (n : CycleSettings) → IsCycleSettings n → (nodes span z first : ℕ) → IsFar far at nodes span → 2 * span + n.rise ≤ n.to
+    (next : Drive → ℕ) (far : ℕ → ℕ → ℕ) (at : ℕ → ℕ) (n : CycleSettings) → IsCycleSettings n → (nodes span z first : ℕ) → IsFar far at nodes span
+    → 2 * span + n.rise ≤ n.to
     → (owner : ℕ → ℕ → Bool) → AreOwners owner n.count z
     → (ds : List Drive) → IsChain next far at n.rise n.fall n.to nodes z first ds → EachDrive (IsPlaced owner n.count z) ds
     → (t : ℕ) → EachDrive (λ (a : Drive). a.start < t) ds → (j : ℕ) → j < nodes
@@ -57,7 +58,8 @@ StartsFollow =
 -- the next beacon is not yet due.
 abbrev pub ChainsPassAsCycles : Type 0
 ChainsPassAsCycles =
-    (far : ℕ → ℕ → ℕ) (at : ℕ → ℕ) (n : CycleSettings) → IsCycleSettings n → (nodes span z first : ℕ) → IsFar far at nodes span → 2 * span + n.rise ≤ n.to
+    (far : ℕ → ℕ → ℕ) (at : ℕ → ℕ) (n : CycleSettings) → IsCycleSettings n → (nodes span z first : ℕ) → IsFar far at nodes span
+    → 2 * span + n.rise ≤ n.to
     → (owner : ℕ → ℕ → Bool) → AreOwners owner n.count z → z < nodes
     → (ds : List Drive) → IsChain next_after far at n.rise n.fall n.to nodes z first ds → EachDrive (IsPlaced owner n.count z) ds
     → (t : ℕ) → EachDrive (IsWhole t) ds → IsSilent next_after far at n.fall n.to n.count z first t ds

@@ -5,7 +5,7 @@ use Rattle.std.proofs.lemmas.Bool.Decides.{nat_tests}
 use Rattle.t1s_node.specs.declared.carrier.Carrier.{Carrier}
 use Rattle.t1s_node.specs.CarrierTable.{carrier_step}
 use Rattle.t1s_world.specs.Waves.{CycleSettings, IsCycleSettings, Wave, AreApart, arrived, sounds_in}
-use Rattle.t1s_world.proofs.Arrived.{ArrivedNext, same, more, comes, lasts}
+use Rattle.t1s_world.proofs.ArrivedWaves.{ArrivedNext, same, more, comes, lasts}
 use Rattle.t1s_turns.specs.CarrierOverWaves.{CarrierOverWaves, off, silent, missed, rising, steady, fading, faded, short}
 
 module _ (n : CycleSettings) (is : IsCycleSettings n) (begin t : ℕ) (started : begin ≤ t) where

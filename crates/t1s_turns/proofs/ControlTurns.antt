@@ -19,7 +19,7 @@ use Rattle.t1s_node.specs.declared.carrier.Carrier.{Carrier}
 use Rattle.t1s_node.proofs.OwnDrives.{drives_first}
 use Rattle.t1s_world.specs.Waves.{CycleSettings, IsCycleSettings, Wave, Behind, AreBehind, IsWave, EachWave, OldestWave, IsFirstBeacon, IsAlive, arrived, seen, lag, opportunity_start, reads_beacon}
 use Rattle.t1s_world.proofs.Opportunities.{opportunity_first}
-use Rattle.t1s_world.proofs.Seen.{NewestArrived, is_seen, still_rises, standing, head_is, behind_arrived, none_before, risen_seen, own_seen}
+use Rattle.t1s_world.proofs.SeenWaves.{NewestArrived, is_seen, still_rises, standing, head_is, behind_arrived, none_before, risen_seen, own_seen}
 use Rattle.t1s_turns.specs.CarrierOverWaves.{CarrierOverWaves, silent, missed, rising, steady, fading, faded, short}
 use Rattle.t1s_turns.specs.ReceiverOverWaves.{ReceiverOverWaves, silent as none_heard, unheard, reads_first, known as heard_known, past as heard_past, late as heard_late}
 use Rattle.t1s_turns.specs.ControlOverWaves.{WaitingControl, listens, fades, syncs, counts, WasThere, from_start, from_within, NoOwnWave, ControlOverWaves, recovers, waits_for_beacon, hears_first_wave, owns_beacon, owns_run, waits}
@@ -27,7 +27,7 @@ use Rattle.t1s_turns.specs.DriveOverWaves.{IsQuiet}
 use Rattle.t1s_turns.proofs.ControlSteps.{NextControl, goes_on, newer, sleeps_in, starts_beacon, starts_commit, from_reach, reached}
 use Rattle.t1s_turns.proofs.DriveTurns.{DriveTurn, recovers_on, has_recovered, waits_on_for_beacon, hears_on, beacon_goes_on, beacon_ends, waits_on, catches, begins_beacon, begins_run}
 use Rattle.t1s_turns.proofs.RunTurns.{SendsRun, RunPlace, run_turn, first_quarter, sends_own}
-use Rattle.t1s_turns.proofs.SeenWaves.{seen_wave, knows_of, never_asleep, none_read}
+use Rattle.t1s_turns.proofs.NewestWave.{seen_wave, knows_of, never_asleep, none_read}
 use Rattle.t1s_turns.proofs.ShownCarrier.{still_off}
 use Rattle.t1s_turns.proofs.TransmitterTurns.{TurnIs, beacon_quarter, turn_of, stays_quiet, begins_beacon as beacon_begins, beacon_lasts, beacon_repeats, beacon_stops}
 use Rattle.t1s_turns.proofs.WaitingSteps.{NewestSeen, turn_next}

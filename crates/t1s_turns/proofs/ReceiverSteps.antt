@@ -20,7 +20,7 @@ use Rattle.t1s_pcs_rx.specs.Receiver.{Receiver}
 use Rattle.t1s_pcs_rx.specs.ReceiveTable.{receive_step, after_judgement, class_of, class_at_end}
 use Rattle.t1s_symbols.specs.Quarters.{continues_last}
 use Rattle.t1s_world.specs.Waves.{CycleSettings, IsCycleSettings, Wave, AreApart, arrived, reads_beacon}
-use Rattle.t1s_world.proofs.Arrived.{ArrivedNext, same, more, comes, lasts}
+use Rattle.t1s_world.proofs.ArrivedWaves.{ArrivedNext, same, more, comes, lasts}
 use Rattle.t1s_turns.specs.ReceiverOverWaves.{class_by, first_symbol, SpellsWave, is_settled, ReceiverOverWaves, silent, unheard, reads_first, known, past, late, LateReception, unsettled, settled, HeardOverWaves, nobody, drives, rests, theirs}
 
 -- a receiver that is told of in two of its fields

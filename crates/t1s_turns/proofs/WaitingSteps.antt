@@ -14,7 +14,7 @@ use Rattle.t1s_world.specs.Waves.{CycleSettings, IsCycleSettings, Wave, AreBehin
 use Rattle.t1s_turns.specs.CarrierOverWaves.{CarrierOverWaves}
 use Rattle.t1s_turns.specs.ReceiverOverWaves.{ReceiverOverWaves, class_by, silent, unheard, reads_first, known, past, late}
 use Rattle.t1s_turns.specs.ControlOverWaves.{WaitingControl, listens, fades, syncs, counts, WasThere, from_start, from_within}
-use Rattle.t1s_world.proofs.Seen.{NewestArrived, is_seen, still_rises, standing, head_is}
+use Rattle.t1s_world.proofs.SeenWaves.{NewestArrived, is_seen, still_rises, standing, head_is}
 use Rattle.t1s_turns.proofs.ShownCarrier.{CarrierShown, crs_of}
 use Rattle.t1s_turns.proofs.ControlSteps.{NextControl, listening, counting, syncing, draining}
 

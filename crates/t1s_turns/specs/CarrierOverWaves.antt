@@ -16,6 +16,7 @@ pub data CarrierOverWaves (n : CycleSettings) (begin t : ℕ) : List Wave → Ca
   missed : {w : Wave} {ws : List Wave} → w.till ≤ begin → CarrierOverWaves n begin t (w ∷ ws) (off 0)
   rising : {w : Wave} {ws : List Wave} {e : ℕ} → t ≤ w.till → max begin w.from + e ≡ t → e < n.rise → CarrierOverWaves n begin t (w ∷ ws) (off e)
   steady : {w : Wave} {ws : List Wave} → t ≤ w.till → max begin w.from + n.rise ≤ t → CarrierOverWaves n begin t (w ∷ ws) (on 0)
-  fading : {w : Wave} {ws : List Wave} {m : ℕ} → max begin w.from + n.rise ≤ w.till → w.till + m ≡ t → 1 ≤ m → m < n.fall → CarrierOverWaves n begin t (w ∷ ws) (on m)
+  fading : {w : Wave} {ws : List Wave} {m : ℕ} → max begin w.from + n.rise ≤ w.till → w.till + m ≡ t → 1 ≤ m → m < n.fall
+      → CarrierOverWaves n begin t (w ∷ ws) (on m)
   faded : {w : Wave} {ws : List Wave} → w.till + n.fall ≤ t → CarrierOverWaves n begin t (w ∷ ws) (off 0)
   short : {w : Wave} {ws : List Wave} → w.till < max begin w.from + n.rise → w.till < t → CarrierOverWaves n begin t (w ∷ ws) (off 0)

@@ -15,9 +15,13 @@ pub record IsQuiet (n : CycleSettings) (begin t : ℕ) (ws : List Wave) (ready :
 -- all IDs, or a run in an opportunity of its own.
 pub data DriveOverWaves (n : CycleSettings) (begin t : ℕ) (ws : List Wave) (ready : Bool) : Option Quarter → Type 0 where
   quiet : IsQuiet n begin t ws ready → DriveOverWaves n begin t ws ready None
-  goes_on : {w : Wave} {rest : List Wave} {q : Quarter} (k : ℕ) → arrived t ws ≡ w ∷ rest → w.own ≡ true → t ≤ w.till → w.from + k ≡ t → SpellsWave w k q
+  goes_on : {w : Wave} {rest : List Wave} {q : Quarter} (k : ℕ) → arrived t ws ≡ w ∷ rest → w.own ≡ true → t ≤ w.till → w.from + k ≡ t
+      → SpellsWave w k q
       → DriveOverWaves n begin t ws ready (Some q)
-  ends : (w : Wave) (rest : List Wave) → arrived t ws ≡ w ∷ rest → w.own ≡ true → t ≤ w.till → w.from + 20 ≤ t → DriveOverWaves n begin t ws ready None
+  ends : (w : Wave) (rest : List Wave) → arrived t ws ≡ w ∷ rest → w.own ≡ true → t ≤ w.till → w.from + 20 ≤ t
+      → DriveOverWaves n begin t ws ready None
   starts_first_beacon : n.owns 0 ≡ true → t ≡ begin + 258 * n.to → DriveOverWaves n begin t ws ready (Some (record { sym = N; part = 0 }))
-  starts_beacon : (a : Wave) (rest : List Wave) → BeginsBehind n t ws a rest n.count → n.owns 0 ≡ true → DriveOverWaves n begin t ws ready (Some (record { sym = N; part = 0 }))
-  starts_run : (a : Wave) (rest : List Wave) (x : ℕ) → BeginsBehind n t ws a rest x → n.owns x ≡ true → ready ≡ true → DriveOverWaves n begin t ws ready (Some (record { sym = J; part = 0 }))
+  starts_beacon : (a : Wave) (rest : List Wave) → BeginsBehind n t ws a rest n.count → n.owns 0 ≡ true
+      → DriveOverWaves n begin t ws ready (Some (record { sym = N; part = 0 }))
+  starts_run : (a : Wave) (rest : List Wave) (x : ℕ) → BeginsBehind n t ws a rest x → n.owns x ≡ true → ready ≡ true
+      → DriveOverWaves n begin t ws ready (Some (record { sym = J; part = 0 }))

@@ -30,19 +30,25 @@ module _ (set : NodeSet) (room : ℕ) (draws : PickedDraws) (given : ℕ → Nod
   abbrev pub started : NodeState
   started = node_start set (empty_queue room) draws
 
+  -- the node as its own tick u finds it
+  abbrev pub node_in : ℕ → NodeState
+  node_in u = node_at started given u
+
   -- In each tick below `now` it hears what the newest wave spells, if that is another's, and drives exactly in its own.
   abbrev pub HearsWaves : ℕ → List Wave → Type 0
   HearsWaves now ws =
-      (u : ℕ) → begin + u < now → HeardOverWaves (begin + u) (arrived (begin + u + 1) ws) (given u).heard (is_some (node_drive_at started given u).quarter)
+      (u : ℕ) → begin + u < now
+          → HeardOverWaves (begin + u) (arrived (begin + u + 1) ws) (given u).heard (is_some (node_drive_at started given u).quarter)
 
   -- What it keeps as its own tick u finds it, and what the drive phase of this tick tells: carrier, receiver and control are as
   -- the waves say, nothing has met its drive; it drives what the waves say, and its status is OK exactly where control takes
   -- part in the cycle.
   pub record NodeOverWaves (u : ℕ) (ws : List Wave) : Type 0 where
-    pub carrier : CarrierOverWaves (cycle_of set) begin (begin + u) (arrived (begin + u) ws) (node_at started given u).carrier
-    pub receiver : ReceiverOverWaves (cycle_of set) begin (begin + u) (arrived (begin + u) ws) (node_at started given u).receiver.class (node_at started given u).receiver.burst
-    pub no_hit : (node_at started given u).hit ≡ false
-    pub control : ControlOverWaves HasOpportunity (cycle_of set) begin (begin + u) ws (node_at started given u).core.control.state (node_at started given u).core.tx.stage (node_at started given u).core.tx.part
-    pub drives : DriveOverWaves (cycle_of set) begin (begin + u) ws (ready (node_at started given u).core.path) (node_drive_at started given u).quarter
+    pub carrier : CarrierOverWaves (cycle_of set) begin (begin + u) (arrived (begin + u) ws) (node_in u).carrier
+    pub receiver : ReceiverOverWaves (cycle_of set) begin (begin + u) (arrived (begin + u) ws) (node_in u).receiver.class (node_in u).receiver.burst
+    pub no_hit : (node_in u).hit ≡ false
+    pub control : ControlOverWaves HasOpportunity (cycle_of set) begin (begin + u) ws (node_in u).core.control.state (node_in u).core.tx.stage
+        (node_in u).core.tx.part
+    pub drives : DriveOverWaves (cycle_of set) begin (begin + u) ws (ready (node_in u).core.path) (node_drive_at started given u).quarter
     pub ok : (node_drive_at started given u).ok ≡ active_at picked_answer picked_after started.core (core_ticks started given) u
     pub undisturbed : IsUndisturbed picked_answer picked_after started.core (core_ticks started given) u

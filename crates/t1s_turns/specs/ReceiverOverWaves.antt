@@ -35,20 +35,24 @@ is_settled Outside = false
 -- a burst that was heard from within a wave on
 pub data LateReception (w : Wave) : Class → Burst → Type 0 where
   unsettled : {q : Quarter} → (q.sym ≡ N → w.beacon ≡ true) → LateReception w Unread (Reading (Some q) true start_phase)
-  settled : {class : Class} {burst : Burst} → (class ≡ BeaconHeard → reads_beacon w ≡ true) → class ≢ Unread → is_settled burst ≡ true → LateReception w class burst
+  settled : {class : Class} {burst : Burst} → (class ≡ BeaconHeard → reads_beacon w ≡ true) → class ≢ Unread → is_settled burst ≡ true
+      → LateReception w class burst
 
 -- Of a node that starts at tick `begin`, by its newest wave: none has come, or nothing of it was heard; its first symbol is
 -- being read; it goes on, and its class is known; it is over; or the node started within it.
 pub data ReceiverOverWaves (n : CycleSettings) (begin t : ℕ) : List Wave → Class → Burst → Type 0 where
   silent : ReceiverOverWaves n begin t [] Unread Outside
   unheard : {w : Wave} {ws : List Wave} → w.till ≤ begin ⊎ (t ≤ begin) ⊎ (w.own ≡ true) → ReceiverOverWaves n begin t (w ∷ ws) Unread Outside
-  reads_first : {w : Wave} {ws : List Wave} {q : Quarter} → w.own ≡ false → begin ≤ w.from → w.from + q.part + 1 ≡ t → q.part < 3 → t ≤ w.till → q.sym ≡ first_symbol w.beacon
+  reads_first : {w : Wave} {ws : List Wave} {q : Quarter} → w.own ≡ false → begin ≤ w.from → w.from + q.part + 1 ≡ t → q.part < 3 → t ≤ w.till
+      → q.sym ≡ first_symbol w.beacon
       → ReceiverOverWaves n begin t (w ∷ ws) Unread (Reading (Some q) true start_phase)
   known : {w : Wave} {ws : List Wave} {burst : Burst} → w.own ≡ false → begin ≤ w.from → w.from + 4 ≤ t → t ≤ w.till → is_settled burst ≡ true
       → ReceiverOverWaves n begin t (w ∷ ws) (class_by w.beacon) burst
-  past : {w : Wave} {ws : List Wave} {class : Class} → w.own ≡ false → w.till < t → (begin ≤ w.from → w.from + 4 ≤ w.till → class ≡ class_by w.beacon) → (class ≡ BeaconHeard → reads_beacon w ≡ true)
+  past : {w : Wave} {ws : List Wave} {class : Class} → w.own ≡ false → w.till < t
+      → (begin ≤ w.from → w.from + 4 ≤ w.till → class ≡ class_by w.beacon) → (class ≡ BeaconHeard → reads_beacon w ≡ true)
       → ReceiverOverWaves n begin t (w ∷ ws) class Outside
-  late : {w : Wave} {ws : List Wave} {class : Class} {burst : Burst} → w.own ≡ false → w.from < begin → t ≤ w.till → begin < t → LateReception w class burst
+  late : {w : Wave} {ws : List Wave} {class : Class} {burst : Burst} → w.own ≡ false → w.from < begin → t ≤ w.till → begin < t
+      → LateReception w class burst
       → ReceiverOverWaves n begin t (w ∷ ws) class burst
 
 -- what is heard in tick t, and whether the node drives, by the waves that have come before tick t + 1
@@ -56,4 +60,5 @@ pub data HeardOverWaves (t : ℕ) : List Wave → Heard → Bool → Type 0 wher
   nobody : HeardOverWaves t [] Nothing false
   drives : {w : Wave} {ws : List Wave} → w.own ≡ true → t < w.till → HeardOverWaves t (w ∷ ws) Nothing true
   rests : {w : Wave} {ws : List Wave} → w.till ≤ t → HeardOverWaves t (w ∷ ws) Nothing false
-  theirs : {w : Wave} {ws : List Wave} {q : Quarter} (k : ℕ) → w.own ≡ false → t < w.till → w.from + k ≡ t → SpellsWave w k q → HeardOverWaves t (w ∷ ws) (One q) false
+  theirs : {w : Wave} {ws : List Wave} {q : Quarter} (k : ℕ) → w.own ≡ false → t < w.till → w.from + k ≡ t → SpellsWave w k q
+      → HeardOverWaves t (w ∷ ws) (One q) false

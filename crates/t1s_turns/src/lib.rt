@@ -2,7 +2,8 @@
 //!
 //! Nothing here runs. `specs/` says, of the waves that have come before a tick, what a node keeps as this tick finds it:
 //! its carrier, its receiver, control and transmitter, and what it drives. The module `laws` has the law that it is so in
-//! every tick, whatever the cable: it names no other node, and no distance.
+//! every tick, whatever the cable: it names no other node, and no distance; and the law of what a node drives while the
+//! opportunity is its own.
 #![tactic(auto)]
 
 pub mod laws;

@@ -3,8 +3,10 @@ pub mod HearingLemmas
 pub mod WorldLemmas
 pub mod EventLemmas
 pub mod Opportunities
-pub mod Arrived
-pub mod Seen
+pub mod ArrivedWaves
+pub mod SeenWaves
 pub mod ChainWaves
 pub mod Overlaps
-pub mod Starts
+pub mod DriveStarts
+pub mod CycleWaves
+pub mod SingleSender

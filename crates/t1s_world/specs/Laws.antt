@@ -1,8 +1,8 @@
 -- What holds of every chain of drives, whatever the cable: `far` is how far a point is from a node, points and nodes are
 -- told apart by numbers, and `at i` is the point of node i.
 use Rattle.std.specs.Prelude.{◌≡◌, ℕ, ◌+◌, ◌-◌, ◌*◌, ◌<◌, ◌≤◌, ◌⊎◌, Bool, true, List, ◌∷◌}
-use Rattle.t1s_world.specs.Waves.{CycleSettings, IsCycleSettings, Wave, opportunity_start, Behind, AreBehind, BeginsBehind}
-use Rattle.t1s_world.specs.Schedule.{Drive, IsFar, NoOverlap, AreOwners, IsPlaced, EachDrive, started_drive, Follows, IsChain, wave_at, waves_at}
+use Rattle.t1s_world.specs.Waves.{CycleSettings, IsCycleSettings, Wave, opportunity_start, Behind, AreBehind, BeginsBehind, AreWaves}
+use Rattle.t1s_world.specs.Schedule.{Drive, IsFar, NoOverlap, AreOwners, IsPlaced, EachDrive, IsWhole, started_drive, next_after, Follows, IsChain, IsSilent, wave_at, waves_at}
 
 -- No two drives of a chain are over one point in one tick.
 abbrev pub DrivesNeverOverlap : Type 0
@@ -46,9 +46,22 @@ GapTellsPlace =
 -- seen, starts it behind the newest drive of the chain: what it starts follows that.
 abbrev pub StartsFollow : Type 0
 StartsFollow =
-    (next : Drive → ℕ) (far : ℕ → ℕ → ℕ) (at : ℕ → ℕ) (n : CycleSettings) → IsCycleSettings n → (nodes span z first : ℕ) → IsFar far at nodes span → 2 * span + n.rise ≤ n.to
+    (next : Drive → ℕ) (far : ℕ → ℕ → ℕ) (at : ℕ → ℕ) (n : CycleSettings) → IsCycleSettings n → (nodes span z first : ℕ) → IsFar far at nodes span
+    → 2 * span + n.rise ≤ n.to
     → (owner : ℕ → ℕ → Bool) → AreOwners owner n.count z
     → (ds : List Drive) → IsChain next far at n.rise n.fall n.to nodes z first ds → EachDrive (IsPlaced owner n.count z) ds
     → (t : ℕ) → EachDrive (λ (a : Drive). a.start < t) ds → (j : ℕ) → j < nodes
     → (a : Wave) (rest : List Wave) (x : ℕ) → BeginsBehind n t (waves_at next far at j ds) a rest x → (owner j x ≡ true) ⊎ ((x ≡ n.count) × (j ≡ z))
     → (beacon : Bool) → (newest : Drive) × (older : List Drive) × (ds ≡ newest ∷ older) × Follows next far at n.fall n.to newest (started_drive j beacon x t)
+
+-- The drives of a chain so far are the waves of a cycle at the place of each node: where those that are over were whole, and
+-- the next beacon is not yet due.
+abbrev pub ChainsPassAsCycles : Type 0
+ChainsPassAsCycles =
+    (far : ℕ → ℕ → ℕ) (at : ℕ → ℕ) (n : CycleSettings) → IsCycleSettings n → (nodes span z first : ℕ) → IsFar far at nodes span
+    → 2 * span + n.rise ≤ n.to
+    → (owner : ℕ → ℕ → Bool) → AreOwners owner n.count z → z < nodes
+    → (ds : List Drive) → IsChain next_after far at n.rise n.fall n.to nodes z first ds → EachDrive (IsPlaced owner n.count z) ds
+    → (t : ℕ) → EachDrive (IsWhole t) ds → IsSilent next_after far at n.fall n.to n.count z first t ds
+    → (j : ℕ) → j < nodes → ((x : ℕ) → n.owns x ≡ owner j x) → (begin : ℕ) → (j ≡ z → first ≡ begin + 258 * n.to)
+    → AreWaves n begin t (waves_at next_after far at j ds)

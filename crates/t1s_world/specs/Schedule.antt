@@ -67,11 +67,16 @@ pub record AreOwners (owner : ℕ → ℕ → Bool) (count z : ℕ) : Type 0 whe
   pub low : (i x : ℕ) → owner i x ≡ true → x < count
   pub one : (i k x : ℕ) → owner i x ≡ true → owner k x ≡ true → i ≡ k
   pub coordinator : (i : ℕ) → owner i 0 ≡ true → i ≡ z
+  pub has_zero : owner z 0 ≡ true
 
 -- a beacon is node z's and has the count of IDs for its place, a run has an ID of its node
 pub record IsPlaced (owner : ℕ → ℕ → Bool) (count z : ℕ) (a : Drive) : Type 0 where
   pub beacon : a.beacon ≡ true → (a.place ≡ count) × (a.node ≡ z)
   pub run : a.beacon ≡ false → owner a.node a.place ≡ true
+
+-- in tick t a drive goes on, or it had at least the 20 ticks that a beacon has
+abbrev pub IsWhole : ℕ → Drive → Type 0
+IsWhole t a = a.stop < t → a.start + 20 ≤ a.stop
 
 module _ {Point : Type 0} (next : Drive → ℕ) (far : ℕ → Point → ℕ) (at : ℕ → Point) where
   -- what a drive is at a point, where `own` tells whether the point is that of its own node

@@ -1,5 +1,5 @@
 //! Laws of the drives of a chain, on numbers alone. Each function is empty: its contract is the law.
-ghost use Rattle.t1s_world.specs.Laws.{DrivesNeverOverlap, ChainsAreWaves, OpportunitiesAreAlone, NoneStartsBefore, GapTellsPlace, StartsFollow};
+ghost use Rattle.t1s_world.specs.Laws.{DrivesNeverOverlap, ChainsAreWaves, OpportunitiesAreAlone, NoneStartsBefore, GapTellsPlace, StartsFollow, ChainsPassAsCycles};
 
 /// No two drives of a chain are over one point in one tick.
 pub fn drives_never_overlap()
@@ -30,4 +30,9 @@ pub fn gap_tells_place()
 /// A node that starts a drive behind the newest wave that it has seen starts it behind the newest drive of the chain.
 pub fn starts_follow()
     ensures { StartsFollow }
+{}
+
+/// The drives of a chain so far are the waves of a cycle at the place of each node.
+pub fn chains_pass_as_cycles()
+    ensures { ChainsPassAsCycles }
 {}

@@ -1,6 +1,6 @@
 use Rattle.std.proofs.Common.{refl, ◌+◌}
-use Rattle.t1s_turns.proofs.Draws.{picked_draws}
-use Rattle.t1s_turns.proofs.Turns.{turn_at}
+use Rattle.t1s_turns.proofs.DrawBounds.{picked_draws}
+use Rattle.t1s_turns.proofs.TurnLaw.{turn_at}
 use Rattle.t1s_turns.proofs.laws.keeps_turns.Goals as goal
 
 pub returns : goal.returns

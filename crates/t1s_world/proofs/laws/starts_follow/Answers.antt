@@ -1,4 +1,4 @@
-use Rattle.t1s_world.proofs.Starts.{sees_newest, starts_follow}
+use Rattle.t1s_world.proofs.DriveStarts.{sees_newest, starts_follow}
 use Rattle.t1s_world.proofs.laws.starts_follow.Goals as goal
 
 pub returns : goal.returns

@@ -8,9 +8,9 @@ use Rattle.t1s_pcs_tx.specs.State.{Stage, Quiet, Beaconing}
 use Rattle.plca_control.specs.declared.State.{State}
 use Rattle.plca_control.specs.declared.State.TheVariants.{Beacon}
 use Rattle.t1s_world.specs.Waves.{CycleSettings, IsCycleSettings, Wave, AreBehind, AreApart, IsWave, EachWave, OldestWave, IsFirstBeacon, arrived, seen, BeginsBehind}
-use Rattle.t1s_world.proofs.Arrived.{ArrivedNext, same, more, comes, lasts, are_apart}
+use Rattle.t1s_world.proofs.ArrivedWaves.{ArrivedNext, same, more, comes, lasts, are_apart}
 use Rattle.t1s_world.proofs.Opportunities.{opportunity_low, opportunity_one}
-use Rattle.t1s_world.proofs.Seen.{NewestArrived, is_seen, still_rises, standing, head_is, SeenNext, as_before, risen, begun, sees, own_seen, risen_seen, each_arrived, oldest_arrived, behind_arrived, none_before}
+use Rattle.t1s_world.proofs.SeenWaves.{NewestArrived, is_seen, still_rises, standing, head_is, SeenNext, as_before, risen, begun, sees, own_seen, risen_seen, each_arrived, oldest_arrived, behind_arrived, none_before}
 use Rattle.t1s_turns.specs.ReceiverOverWaves.{HeardOverWaves, drives, rests, theirs}
 use Rattle.t1s_turns.specs.ControlOverWaves.{WaitingControl, fades, syncs, WasThere, from_start, NoOwnWave, ControlOverWaves, recovers, waits_for_beacon, hears_first_wave, owns_beacon, owns_run, waits}
 use Rattle.t1s_turns.proofs.ReceiverSteps.{read_whole}

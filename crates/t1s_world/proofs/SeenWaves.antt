@@ -3,7 +3,7 @@ use Rattle.std.proofs.Common.{◌≡◌, ℕ, ◌+◌, ◌<◌, ◌≤◌, ◌�
 use Rattle.std.proofs.lemmas.Bool.{cases_lt, cases_eq, cond_both}
 use Rattle.std.proofs.lemmas.Bool.Decides.{nat_tests}
 use Rattle.t1s_world.specs.Waves.{CycleSettings, IsCycleSettings, Wave, Behind, AreBehind, EachWave, OldestWave, arrived, seen, lag}
-use Rattle.t1s_world.proofs.Arrived.{older}
+use Rattle.t1s_world.proofs.ArrivedWaves.{older}
 
 -- the newest wave that has come, against a, the newest that control has seen
 pub data NewestArrived (n : CycleSettings) (t : ℕ) (ws : List Wave) (a : Wave) (rest : List Wave) : Type 0 where

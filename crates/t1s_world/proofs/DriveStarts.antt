@@ -5,7 +5,7 @@ use Rattle.std.proofs.lemmas.Bool.Decides.{nat_tests}
 use Rattle.t1s_world.specs.Waves.{CycleSettings, IsCycleSettings, Wave, BeginsBehind, arrived, seen, lag, opportunity_start}
 use Rattle.t1s_world.specs.Schedule.{Drive, IsFar, Follows, IsChain, AreOwners, IsPlaced, EachDrive, started_drive, wave_at, waves_at}
 use Rattle.t1s_world.proofs.ChainWaves.{are_behind, window, node_of}
-use Rattle.t1s_world.proofs.Seen.{head_is, lag_low}
+use Rattle.t1s_world.proofs.SeenWaves.{head_is, lag_low}
 
 module _ {Point : Type 0} (next : Drive → ℕ) (far : ℕ → Point → ℕ) (at : ℕ → Point) (n : CycleSettings) (is : IsCycleSettings n) (nodes span : ℕ) (is_far : IsFar far at nodes span)
     (short : 2 * span + n.rise ≤ n.to) (owner : ℕ → ℕ → Bool) (z first : ℕ) (owners : AreOwners owner n.count z) (j : ℕ) (here : j < nodes) (t : ℕ) where

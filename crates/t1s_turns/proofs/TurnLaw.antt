@@ -30,7 +30,7 @@ use Rattle.t1s_turns.specs.ReceiverOverWaves.{ReceiverOverWaves, silent as none_
 use Rattle.t1s_turns.specs.ControlOverWaves.{ControlOverWaves, recovers, waits_for_beacon, hears_first_wave, owns_beacon, owns_run, waits}
 use Rattle.t1s_turns.specs.NodeOverWaves.{cycle_of, HasOpportunity, started, HearsWaves, NodeOverWaves}
 use Rattle.t1s_turns.proofs.DriveTurns.{drive_of}
-use Rattle.t1s_turns.proofs.NodeKept.{NodeKept, kept_offers, kept_next, drive, drive_is, active_is, stays_active, status_next}
+use Rattle.t1s_turns.proofs.NodeInvariant.{NodeInvariant, kept_offers, kept_next, drive, drive_is, active_is, stays_active, status_next}
 use Rattle.t1s_turns.proofs.RunTurns.{SendsRun, sends_own}
 
 -- a wave that has come
@@ -106,7 +106,7 @@ module _ (bounded : DrawsAreBounded picked_answer) (set : NodeSet) (is_set : IsN
   offered u = node_after_offers (node u) (given u).offers
 
   abbrev Kept : ℕ → NodeState → Type 0
-  Kept t x = NodeKept set is_set low_id begin ws t x
+  Kept t x = NodeInvariant set is_set low_id begin ws t x
 
   at_zero : node zero ≡ started set room draws given begin
   unfolding node_at

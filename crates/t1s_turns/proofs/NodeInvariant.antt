@@ -35,14 +35,14 @@ use Rattle.t1s_node.proofs.NoPiece.{Free, quiet as free_quiet, beacons as free_b
 use Rattle.t1s_node.proofs.OwnDrives.{Late}
 use Rattle.t1s_node.proofs.View.{View, InCommit, InPause}
 use Rattle.t1s_world.specs.Waves.{IsCycleSettings, Wave, AreWaves, arrived, sounds_in}
-use Rattle.t1s_world.proofs.Arrived.{are_apart}
+use Rattle.t1s_world.proofs.ArrivedWaves.{are_apart}
 use Rattle.t1s_turns.specs.CarrierOverWaves.{CarrierOverWaves}
 use Rattle.t1s_turns.specs.ReceiverOverWaves.{ReceiverOverWaves, HeardOverWaves, nobody, drives, rests, theirs}
 use Rattle.t1s_turns.specs.ControlOverWaves.{ControlOverWaves}
 use Rattle.t1s_turns.specs.NodeOverWaves.{cycle_of}
 use Rattle.t1s_turns.proofs.CarrierSteps.{carrier_next}
 use Rattle.t1s_turns.proofs.ReceiverSteps.{receiver_next}
-use Rattle.t1s_turns.proofs.ControlKept.{control_kept}
+use Rattle.t1s_turns.proofs.ControlNext.{control_kept}
 use Rattle.t1s_turns.proofs.ControlTurns.{drive_turn, active_stays}
 use Rattle.t1s_turns.proofs.DriveTurns.{DriveTurn}
 use Rattle.t1s_turns.proofs.RunTurns.{SendsRun, RunPlace}
@@ -153,7 +153,7 @@ module _ (set : NodeSet) (is_set : IsNodeSet set) (low_id : set.control.id < set
       low x e = grind (arith, nat_tests, e, low_id)
 
   -- what the node keeps as tick t of the world finds it
-  pub record NodeKept (t : ℕ) (x : NodeState) : Type 0 where
+  pub record NodeInvariant (t : ℕ) (x : NodeState) : Type 0 where
     pub set_is : x.core.control.set ≡ set.control
     pub rise_is : x.rise ≡ set.rise
     pub fall_is : x.fall ≡ set.fall
@@ -166,7 +166,7 @@ module _ (set : NodeSet) (is_set : IsNodeSet set) (low_id : set.control.id < set
     pub stands : Stands place x.core
     pub awake : (place ≡ Asleep) ⊎ (is_active x.core.control.state ≡ true)
 
-  kept_offer : (t : ℕ) (x : NodeState) (q : Queued) → IsFrame q.frame → NodeKept t x → NodeKept t (node_after_offer x q)
+  kept_offer : (t : ℕ) (x : NodeState) (q : Queued) → IsFrame q.frame → NodeInvariant t x → NodeInvariant t (node_after_offer x q)
   kept_offer t x q frame h = record {
     set_is = h.set_is;
     rise_is = h.rise_is;
@@ -181,14 +181,14 @@ module _ (set : NodeSet) (is_set : IsNodeSet set) (low_id : set.control.id < set
     awake = h.awake;
   }
 
-  pub kept_offers : (t : ℕ) (x : NodeState) (qs : List Queued) → All (λ (q : Queued). IsFrame q.frame) qs → NodeKept t x → NodeKept t (node_after_offers x qs)
+  pub kept_offers : (t : ℕ) (x : NodeState) (qs : List Queued) → All (λ (q : Queued). IsFrame q.frame) qs → NodeInvariant t x → NodeInvariant t (node_after_offers x qs)
   kept_offers t x [] all h = h
   kept_offers t x (q ∷ qs) all h =
       kept_offers t (node_after_offer x q) qs (All-tail (λ (y : Queued). IsFrame y.frame) q qs all) (kept_offer t x q (All-head (λ (y : Queued). IsFrame y.frame) q qs all) h)
 
   -- ---- the drive phase of a tick up to `now`, after the offers
 
-  module _ (t now : ℕ) (soon : t ≤ now) (waves : AreWaves (cycle_of set) begin now ws) (x : NodeState) (h : NodeKept t x) where
+  module _ (t now : ℕ) (soon : t ≤ now) (waves : AreWaves (cycle_of set) begin now ws) (x : NodeState) (h : NodeInvariant t x) where
     abbrev input : ControlIn
     input = control_in (reading_of x) x.core
 
@@ -265,7 +265,7 @@ module _ (set : NodeSet) (is_set : IsNodeSet set) (low_id : set.control.id < set
     -- ---- and its hear phase
 
     pub kept_next : DrawsAreBounded picked_answer → begin ≤ t → t < now → (heard : Heard) → HeardOverWaves t (arrived (t + 1) ws) heard (is_some drive.quarter)
-        → NodeKept (t + 1) (node_hear (node_drive x).0 heard)
+        → NodeInvariant (t + 1) (node_hear (node_drive x).0 heard)
     kept_next bounded started early heard hears =
         let apart = are_apart (cycle_of set) is_set.fall_low ws waves.behind in
         let place = next_place bounded in

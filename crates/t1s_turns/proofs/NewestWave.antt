@@ -4,7 +4,7 @@ use Rattle.std.proofs.lemmas.Bool.{cases_lt, false≢true}
 use Rattle.std.proofs.lemmas.Bool.Decides.{nat_tests}
 use Rattle.t1s_world.specs.Waves.{CycleSettings, IsCycleSettings, Wave, Behind, AreBehind, IsWave, EachWave, IsAlive, arrived, seen, lag, opportunity_start, reads_beacon}
 use Rattle.t1s_world.proofs.Opportunities.{opportunity_far, opportunity_low}
-use Rattle.t1s_world.proofs.Seen.{NewestArrived, is_seen, still_rises, standing, head_is, each_arrived, each_seen, lag_low}
+use Rattle.t1s_world.proofs.SeenWaves.{NewestArrived, is_seen, still_rises, standing, head_is, each_arrived, each_seen, lag_low}
 use Rattle.t1s_turns.specs.ControlOverWaves.{WasThere, from_start, from_within}
 use Rattle.t1s_turns.proofs.WaitingSteps.{NewestSeen}
 

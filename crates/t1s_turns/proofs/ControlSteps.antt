@@ -11,6 +11,7 @@ use Rattle.plca_control.specs.declared.State.TheVariants.{Beacon, Syncing, WaitT
 use Rattle.plca_control.specs.ControlTable.{reach, control_row, is_beacon}
 use Rattle.t1s_world.specs.Waves.{CycleSettings, IsCycleSettings, Wave, opportunity_start, reads_beacon, next_heard}
 use Rattle.t1s_turns.specs.ControlOverWaves.{WaitingControl, listens, fades, syncs, counts, commit_of}
+use Rattle.t1s_turns.specs.DriveOverWaves.{Lapses}
 use Rattle.t1s_turns.proofs.ShownCarrier.{CarrierShown, lasts_on, gone, caught}
 use Rattle.t1s_world.proofs.Opportunities.{opportunity_first, opportunity_next, opportunity_far, opportunity_low, opportunity_one}
 
@@ -64,7 +65,7 @@ module _ (s : ControlSet) (n : CycleSettings) (is : IsCycleSettings n) (same_own
   -- drives nothing, and waits on behind the wave a or behind a newer one; or it passes all IDs; or it starts to drive as the
   -- opportunity of x begins behind a.
   pub data NextControl (t : ℕ) (came : List Wave) (a : Wave) (ready : Bool) : Bool → State × TxCmd → Type 0 where
-    goes_on : {crs : Bool} {st : State} → (crs ≡ false) ⊎ (t < a.till + n.fall) → ((x : ℕ) → a.next ≤ x → t ≡ opportunity_start n a x → n.owns x ≡ true → ready ≡ false) → WaitingControl n (t + 1) a st → NextControl t came a ready crs (st, NoCmd)
+    goes_on : {crs : Bool} {st : State} → (crs ≡ false) ⊎ (t < a.till + n.fall) → ((x : ℕ) → a.next ≤ x → t ≡ opportunity_start n a x → Lapses n ready x) → WaitingControl n (t + 1) a st → NextControl t came a ready crs (st, NoCmd)
     newer : {st : State} (w : Wave) (rest : List Wave) → came ≡ w ∷ a ∷ rest → w.own ≡ false → t ≡ w.from + n.rise → WaitingControl n (t + 1) w st → NextControl t came a ready true (st, NoCmd)
     sleeps_in : n.owns 0 ≡ false → t ≡ opportunity_start n a 255 → NextControl t came a ready false (Resync, NoCmd)
     starts_beacon : n.owns 0 ≡ true → t ≡ opportunity_start n a n.count → a.next ≤ n.count → NextControl t came a ready false (Beacon 20, BeaconCmd)
@@ -78,17 +79,23 @@ module _ (s : ControlSet) (n : CycleSettings) (is : IsCycleSettings n) (same_own
   from_reach t came a ready x _ at first top past (commits mine some) = starts_commit x mine at first some
   from_reach t came a ready x _ at first top past (sleeps follower last) = sleeps_in follower (at ∙ ap (opportunity_start n a) last)
   from_reach t came a ready x _ at first top past (waits low more none) =
-      goes_on (inl refl) (λ y order now mine. none (subst (λ (z : ℕ). n.owns z ≡ true) (opportunity_one n a y x (omega (arith, is.to_high, is.rise_low)) order first (sym now ∙ at)) mine))
+      goes_on (inl refl) (λ y order now. lapsed y (opportunity_one n a y x (omega (arith, is.to_high, is.rise_low)) order first (sym now ∙ at)))
       (counts {a = a} x n.to (omega (arith, past)) (omega (arith, at)) (omega (arith, is.to_high, is.rise_low)) (omega arith) first low more)
+    where
+      lapsed : (y : ℕ) → y ≡ x → Lapses n ready y
+      lapsed y e = record {
+        own = λ mine. none (subst (λ (z : ℕ). n.owns z ≡ true) e mine);
+        coordinator = λ zero. let below = more zero in omega (arith, below, e);
+      }
 
   -- while carrier of a wave lasts no opportunity begins behind it
-  none_begins : (t : ℕ) (a : Wave) (ready : Bool) → t < a.till + n.fall → (x : ℕ) → a.next ≤ x → t ≡ opportunity_start n a x → n.owns x ≡ true → ready ≡ false
-  none_begins t a ready before x order now mine = absurd (omega (arith, before, now, opportunity_low n a x))
+  none_begins : (t : ℕ) (a : Wave) (ready : Bool) → t < a.till + n.fall → (x : ℕ) → a.next ≤ x → t ≡ opportunity_start n a x → Lapses n ready x
+  none_begins t a ready before x order now = absurd (omega (arith, before, now, opportunity_low n a x))
 
   -- nor within one
   none_within : (t c m : ℕ) (a : Wave) (ready : Bool) → t + m ≡ opportunity_start n a c + n.to + 1 → 1 < m → m ≤ n.to → a.next ≤ c
-      → (x : ℕ) → a.next ≤ x → t ≡ opportunity_start n a x → n.owns x ≡ true → ready ≡ false
-  none_within t c m a ready at some most low x order now mine = elim (cases_lt c x) [
+      → (x : ℕ) → a.next ≤ x → t ≡ opportunity_start n a x → Lapses n ready x
+  none_within t c m a ready at some most low x order now = elim (cases_lt c x) [
     | inl lt ↦ let room = opportunity_far n a c x low lt in absurd (omega (arith, room, at, some, now))
     | inr ge ↦ elim (cases_eq x c) [
       | inl equal ↦ let e : opportunity_start n a x ≡ opportunity_start n a c = ap (opportunity_start n a) equal in absurd (omega (arith, e, at, most, now))

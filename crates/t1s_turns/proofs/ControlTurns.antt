@@ -23,7 +23,7 @@ use Rattle.t1s_world.proofs.SeenWaves.{NewestArrived, is_seen, still_rises, stan
 use Rattle.t1s_turns.specs.CarrierOverWaves.{CarrierOverWaves, silent, missed, rising, steady, fading, faded, short}
 use Rattle.t1s_turns.specs.ReceiverOverWaves.{ReceiverOverWaves, silent as none_heard, unheard, reads_first, known as heard_known, past as heard_past, late as heard_late}
 use Rattle.t1s_turns.specs.ControlOverWaves.{WaitingControl, listens, fades, syncs, counts, WasThere, from_start, from_within, NoOwnWave, ControlOverWaves, recovers, waits_for_beacon, hears_first_wave, owns_beacon, owns_run, waits}
-use Rattle.t1s_turns.specs.DriveOverWaves.{IsQuiet}
+use Rattle.t1s_turns.specs.DriveOverWaves.{IsQuiet, Lapses}
 use Rattle.t1s_turns.proofs.ControlSteps.{NextControl, goes_on, newer, sleeps_in, starts_beacon, starts_commit, from_reach, reached}
 use Rattle.t1s_turns.proofs.DriveTurns.{DriveTurn, recovers_on, has_recovered, waits_on_for_beacon, hears_on, beacon_goes_on, beacon_ends, waits_on, catches, begins_beacon, begins_run}
 use Rattle.t1s_turns.proofs.RunTurns.{SendsRun, RunPlace, run_turn, first_quarter, sends_own}
@@ -142,12 +142,35 @@ module _ (s : ControlSet) (n : CycleSettings) (is : IsCycleSettings n) (same_own
   oldest_from (x ∷ []) o = o.from
   oldest_from (x ∷ y ∷ xs) o = oldest_from (y ∷ xs) o
 
-  -- nothing is due where no frame is ready and no wave is the node's own
-  unready : i.ready ≡ false → NoOwnWave begin t ws → IsQuiet n begin t ws i.ready
-  unready idle none = record { own_over = λ w rest e own from. absurd (none w rest e own from); passes = λ a rest x begins mine. idle }
-
   none_come : arrived t ws ≡ [] → NoOwnWave begin t ws
   none_come nothing w rest e own from = let none : [] ≡ w ∷ rest = sym nothing ∙ e in absurd (cc)
+
+  -- nothing is due where no frame is ready and no wave is the node's own
+  unready : i.ready ≡ false → n.owns 0 ≡ false → NoOwnWave begin t ws → IsQuiet n begin t ws i.ready
+  unready idle zero none = record {
+    own_over = λ w rest e own from. absurd (none w rest e own from);
+    lapses = λ a rest x begins. record { own = λ mine. idle; coordinator = λ coord. absurd (false≢true (sym zero ∙ coord)) };
+    recovers = λ coord at. absurd (false≢true (sym zero ∙ coord));
+  }
+
+  -- where no wave has come none is seen
+  none_seen : arrived t ws ≡ [] → (a : Wave) (rest : List Wave) → seen n t ws ≡ a ∷ rest → ⊥
+  none_seen nothing a rest e = go (standing n is t ws a rest behind e)
+    where
+      go : NewestArrived n t ws a rest → ⊥
+      go (is_seen at gone_by) = let none : [] ≡ a ∷ rest = sym nothing ∙ at in absurd (cc)
+      go (still_rises w at theirs come soon_on late) = let none : [] ≡ w ∷ a ∷ rest = sym nothing ∙ at in absurd (cc)
+
+  -- up to the tick in which a coordinator has recovered none has come
+  none_at_first : n.owns 0 ≡ true → t ≤ begin + 258 * n.to → arrived t ws ≡ []
+  none_at_first zero at = none_before n (begin + 258 * n.to) t ws behind (oldest_from ws (first zero)) at
+
+  unrecovered : arrived t ws ≡ [] → t < begin + 258 * n.to → IsQuiet n begin t ws i.ready
+  unrecovered nothing before = record {
+    own_over = λ w rest e own from. absurd (none_come nothing w rest e own from);
+    lapses = λ a rest x begins. absurd (none_seen nothing a rest begins.newest);
+    recovers = λ coord at. absurd (omega (arith, at, before));
+  }
 
   recovering : (q : ℕ) → i.ready ≡ false → n.owns 0 ≡ true → begin + q ≡ t → q ≤ 258 * n.to → TurnTo Quiet (control_row s (Recover q) i)
   recovering q idle zero at low =
@@ -159,18 +182,18 @@ module _ (s : ControlSet) (n : CycleSettings) (is : IsCycleSettings n) (same_own
             by_row Quiet (control_row s (Recover q) i) (Beacon 20, BeaconCmd) (rw (off, b) refl) (beacon_to (Beacon 20) (has_recovered zero (omega (arith, at, equal, same_to))))
         | inr other ↦
             let b : (q == 258 * s.to) ≡ false = grind (arith, nat_tests, other) in
-            by_row Quiet (control_row s (Recover q) i) (Recover (q + 1), NoCmd) (rw (off, b) refl) (quiet_to (Recover (q + 1)) (recovers_on zero at (omega (arith, low, other, same_to)) (unready idle (none_come nothing))))
+            by_row Quiet (control_row s (Recover q) i) (Recover (q + 1), NoCmd) (rw (off, b) refl) (quiet_to (Recover (q + 1)) (recovers_on zero at (omega (arith, low, other, same_to)) (unrecovered nothing (omega (arith, at, low, other, same_to)))))
       ]
 
   -- carrier is on: the node hears a wave, and waits for what it says
   hearing : i.ready ≡ false → n.owns 0 ≡ false → NoOwnWave begin t ws → i.crs ≡ true → Comes Early Quiet 0 None
   hearing idle zero none on =
       let h = carrier_on n is.fall_low begin t (arrived t ws) c (sym shown ∙ on) carrier in
-      hears_on h.w h.rest zero none h.at h.rose h.long h.within (unready idle none)
+      hears_on h.w h.rest zero none h.at h.rose h.long h.within (unready idle zero none)
 
   waiting_for_beacon : (b : Bool) → i.crs ≡ b → i.ready ≡ false → n.owns 0 ≡ false → NoOwnWave begin t ws → TurnTo Quiet (control_row s Resync i)
   waiting_for_beacon true e idle zero none = by_row Quiet (control_row s Resync i) (Early, NoCmd) (rw e refl) (quiet_to Early (hearing idle zero none e))
-  waiting_for_beacon false e idle zero none = by_row Quiet (control_row s Resync i) (Resync, NoCmd) (rw e refl) (quiet_to Resync (waits_on_for_beacon zero none (unready idle none)))
+  waiting_for_beacon false e idle zero none = by_row Quiet (control_row s Resync i) (Resync, NoCmd) (rw e refl) (quiet_to Resync (waits_on_for_beacon zero none (unready idle zero none)))
 
   -- ---- where a node takes part and does not drive
 
@@ -198,11 +221,12 @@ module _ (s : ControlSet) (n : CycleSettings) (is : IsCycleSettings n) (same_own
   there_next a (from_within over long) = from_within (omega (arith, over)) long
 
   -- behind the newest wave nothing is due
-  quietly : (a : Wave) (rest : List Wave) → seen n t ws ≡ a ∷ rest → (a.own ≡ true → a.till < t) → ((x : ℕ) → a.next ≤ x → t ≡ opportunity_start n a x → n.owns x ≡ true → i.ready ≡ false)
+  quietly : (a : Wave) (rest : List Wave) → seen n t ws ≡ a ∷ rest → (a.own ≡ true → a.till < t) → ((x : ℕ) → a.next ≤ x → t ≡ opportunity_start n a x → Lapses n i.ready x)
       → IsQuiet n begin t ws i.ready
   quietly a rest newest over passes = record {
     own_over = λ w others e own from. own_ended w others (own_seen n is t ws w others behind e own) own;
-    passes = λ b others x begins mine. passed b others x (sym begins.newest ∙ newest) begins.order begins.now mine;
+    lapses = λ b others x begins. passed b others x (sym begins.newest ∙ newest) begins.order begins.now;
+    recovers = λ zero at. none_seen (none_at_first zero (omega (arith, at))) a rest newest;
   }
     where
       own_ended : (w : Wave) (others : List Wave) → seen n t ws ≡ w ∷ others → w.own ≡ true → w.till < t
@@ -211,16 +235,17 @@ module _ (s : ControlSet) (n : CycleSettings) (is : IsCycleSettings n) (same_own
           let mine : a.own ≡ true = ap (λ (x : Wave). x.own) (sym head) ∙ own in
           omega (arith, over mine, ap (λ (x : Wave). x.till) head)
 
-      passed : (b : Wave) (others : List Wave) (x : ℕ) → b ∷ others ≡ a ∷ rest → b.next ≤ x → t ≡ opportunity_start n b x → n.owns x ≡ true → i.ready ≡ false
-      passed b others x e order now mine =
+      passed : (b : Wave) (others : List Wave) (x : ℕ) → b ∷ others ≡ a ∷ rest → b.next ≤ x → t ≡ opportunity_start n b x → Lapses n i.ready x
+      passed b others x e order now =
           let head = (head_is b a others rest e).0 in
-          passes x (omega (arith, order, ap (λ (y : Wave). y.next) head)) (now ∙ ap (λ (y : Wave). opportunity_start n y x) head) mine
+          passes x (omega (arith, order, ap (λ (y : Wave). y.next) head)) (now ∙ ap (λ (y : Wave). opportunity_start n y x) head)
 
   -- nor where a newer one is caught
   caught_quietly : (w a : Wave) (rest others : List Wave) → seen n t ws ≡ a ∷ rest → arrived t ws ≡ w ∷ a ∷ others → w.own ≡ false → t ≡ w.from + n.rise → IsQuiet n begin t ws i.ready
   caught_quietly w a rest others newest at other at_rise = record {
     own_over = λ v vs e own from. absurd (not_own v vs e own);
-    passes = λ b bs x begins mine. absurd (not_caught b bs begins.newest begins.none_risen);
+    lapses = λ b bs x begins. absurd (not_caught b bs begins.newest begins.none_risen);
+    recovers = λ zero now_at. none_seen (none_at_first zero (omega (arith, now_at))) a rest newest;
   }
     where
       not_own : (v : Wave) (vs : List Wave) → arrived t ws ≡ v ∷ vs → v.own ≡ true → ⊥
@@ -291,7 +316,7 @@ module _ (s : ControlSet) (n : CycleSettings) (is : IsCycleSettings n) (same_own
   hearing_first : (b f : Bool) (w : Wave) (rest : List Wave) → i.crs ≡ b → is_beacon i.class ≡ f → i.ready ≡ false → n.owns 0 ≡ false → NoOwnWave begin t ws → arrived t ws ≡ w ∷ rest → max begin w.from + n.rise < t → max begin w.from + n.rise ≤ w.till
       → t ≤ w.till + n.fall → TurnTo Quiet (control_row s Early i)
   hearing_first true f w rest e flag idle zero none at rose long within = by_row Quiet (control_row s Early i) (Early, NoCmd) (rw e refl) (quiet_to Early (hearing idle zero none e))
-  hearing_first false false w rest e flag idle zero none at rose long within = by_row Quiet (control_row s Early i) (Resync, NoCmd) (rw (e, flag) refl) (quiet_to Resync (waits_on_for_beacon zero none (unready idle none)))
+  hearing_first false false w rest e flag idle zero none at rose long within = by_row Quiet (control_row s Early i) (Resync, NoCmd) (rw (e, flag) refl) (quiet_to Resync (waits_on_for_beacon zero none (unready idle zero none)))
   hearing_first false true w rest e flag idle zero none at rose long within =
       let fallen = has_fallen n begin t w rest (arrived t ws) c at rose long is.rise_low (sym shown ∙ e) carrier in
       by_row Quiet (control_row s Early i) (reach s i.ready 0) (rw (e, flag) refl) (synchronised w rest zero at rose long (omega (arith, within, fallen)) flag)

@@ -5,10 +5,17 @@ use Rattle.t1s_symbols.specs.declared.Symbol.TheVariants.{N, J}
 use Rattle.t1s_world.specs.Waves.{CycleSettings, Wave, BeginsBehind, arrived}
 use Rattle.t1s_turns.specs.ReceiverOverWaves.{SpellsWave}
 
--- Nothing goes on or begins in tick t: an own wave has ended before it, and where an own opportunity begins no frame is ready.
+-- the opportunity of ID x passes: no frame is ready where it is the node's own, and it is not that of the node's beacon
+pub record Lapses (n : CycleSettings) (ready : Bool) (x : ℕ) : Type 0 where
+  pub own : n.owns x ≡ true → ready ≡ false
+  pub coordinator : n.owns 0 ≡ true → x < n.count
+
+-- Nothing goes on or begins in tick t: an own wave has ended before it, an opportunity that begins in it passes, and it is not
+-- the tick in which a coordinator has recovered.
 pub record IsQuiet (n : CycleSettings) (begin t : ℕ) (ws : List Wave) (ready : Bool) : Type 0 where
   pub own_over : (w : Wave) (rest : List Wave) → arrived t ws ≡ w ∷ rest → w.own ≡ true → begin ≤ w.from → w.till < t
-  pub passes : (a : Wave) (rest : List Wave) (x : ℕ) → BeginsBehind n t ws a rest x → n.owns x ≡ true → ready ≡ false
+  pub lapses : (a : Wave) (rest : List Wave) (x : ℕ) → BeginsBehind n t ws a rest x → Lapses n ready x
+  pub recovers : n.owns 0 ≡ true → t ≡ begin + 258 * n.to → ⊥
 
 -- Tick t of a node that starts at tick `begin`, where `ready` tells that a frame waits for its opportunity. It drives nothing;
 -- or its newest wave is its own, and goes on or ends with this tick; or it starts a drive: its first beacon, a beacon behind

@@ -4,10 +4,10 @@ use Rattle.std.proofs.lemmas.Bool.{cases_lt, cases_eq}
 use Rattle.std.proofs.lemmas.Bool.Decides.{nat_tests}
 use Rattle.t1s_world.specs.Waves.{CycleSettings, IsCycleSettings, Wave, Behind, AreBehind, IsWave, EachWave, IsAlive, AreWaves, BeginsBehind, arrived, seen, lag, opportunity_start}
 use Rattle.t1s_world.proofs.Opportunities.{opportunity_far, opportunity_low}
-use Rattle.t1s_world.proofs.Seen.{lag_low}
+use Rattle.t1s_world.proofs.SeenWaves.{lag_low}
 use Rattle.t1s_turns.specs.NextOpportunity.{LastsAtMost, BeginsWithin}
 use Rattle.t1s_turns.proofs.Potential.{UnitsLeft, this_cycle, next_cycle, CountsOn, falls, over_by, passed_by, over_after, lapsed, times}
-use Rattle.t1s_turns.proofs.SeenWaves.{place_low}
+use Rattle.t1s_turns.proofs.NewestWave.{place_low}
 
 -- with which ID all go on to count behind a wave that is over
 counts_on : (n : CycleSettings) (now : ℕ) (w : Wave) → IsWave n now w → w.till < now → CountsOn n w

@@ -1,7 +1,6 @@
 -- The one node with ID 0 in its world: what it drives in each tick, and its drives.
-use Rattle.std.proofs.Common.{◌≡◌, ℕ, zero, suc, ◌+◌, ◌-◌, ◌*◌, ◌%◌, ◌<◌, ◌≤◌, ◌⊎◌, inl, inr, false, cond, eqb, refl, arith, rules, Option, Some, None, ◌∙◌, sym, ap, subst, add-one, min, ◌↔◌}
+use Rattle.std.proofs.Common.{◌≡◌, ℕ, zero, suc, ◌+◌, ◌-◌, ◌*◌, ◌%◌, ◌<◌, ◌≤◌, ◌⊎◌, inl, inr, cond, eqb, refl, arith, Option, Some, None, ◌∙◌, sym, ap, subst, min, ◌↔◌}
 use Rattle.std.specs.Prelude.{slice_get, IsSome, IsNone}
-use Rattle.std.proofs.lemmas.Bool.Decides.{nat_tests}
 use Rattle.std.proofs.lemmas.Bool.{cases_lt, cases_eq, false≢true}
 use Rattle.std.proofs.Math.Nat.{mul-le-mul_right}
 use Rattle.std.proofs.lemmas.Option.{slice_get_cases, slice_get_within, get_or_from_slice_get}

@@ -1,6 +1,6 @@
 -- A node that is never offered a frame drives nothing but beacons, whatever it hears.
 use Rattle.std.proofs.Common.{◌≡◌, ℕ, zero, suc, ◌+◌, ◌-◌, ◌*◌, Bool, true, false, cond, eqb, ltb, leb, List, refl, sym, ◌∙◌, ap, Some}
-use Rattle.std.specs.Prelude.{◌&&◌, Option}
+use Rattle.std.specs.Prelude.{◌&&◌}
 use Rattle.t1s_symbols.specs.declared.Heard.{Heard}
 use Rattle.t1s_symbols.specs.declared.Quarter.{Quarter}
 use Rattle.t1s_symbols.specs.declared.Symbol.TheVariants.{N}

@@ -1,7 +1,7 @@
 -- What each node of a script hears in a tick, and whether it drives in it, is what comes of the tick at that node.
-use Rattle.std.proofs.Common.{◌≡◌, ℕ, zero, suc, ◌<◌, ◌≤◌, inl, inr, Bool, true, false, cond, ltb, List, length, get_or, map, Option, Some, None, refl, sym, ◌∙◌, ap, arith}
+use Rattle.std.proofs.Common.{◌≡◌, ℕ, zero, suc, ◌<◌, ◌≤◌, inl, inr, Bool, false, cond, ltb, List, length, get_or, map, Option, Some, None, refl, sym, ◌∙◌, ap, arith}
 use Rattle.std.specs.Option.{option_map}
-use Rattle.std.specs.Prelude.{◌==◌, slice_get, is_some, position}
+use Rattle.std.specs.Prelude.{◌==◌, slice_get, is_some}
 use Rattle.std.proofs.lemmas.Bool.{cases_lt, lt-ltb, le-ltb}
 use Rattle.std.proofs.lemmas.List.{length-map}
 use Rattle.std.proofs.lemmas.List.Quantifiers.{position-Some}
@@ -15,10 +15,10 @@ use Rattle.t1s_world.proofs.WorldLemmas.{driven_is, hear_outcome_is, length-node
 use Rattle.t1s_script.specs.declared.script.Script.{Script}
 use Rattle.t1s_script.specs.declared.script.NodeLine.{NodeLine}
 use Rattle.t1s_line.specs.declared.track.Track.{Track}
-use Rattle.t1s_line.specs.Outcomes.{DriveOutcome, HearOutcome}
+use Rattle.t1s_line.specs.Outcomes.{HearOutcome}
 use Rattle.t1s_line.specs.Runs.{heard_below, heard_tick, last_heard_in}
 use Rattle.t1s_line.specs.Track.{drive_track, hear_track, no_drive, no_hearing, driven_track, drive_outcome, hearing_track, hear_outcome}
-use Rattle.t1s_line.specs.World.{machine_of, world, places_of, first_track, first_tracks, driven_in, position_of, start_of, heard_in, tick_in, last_heard}
+use Rattle.t1s_line.specs.World.{machine_of, world, places_of, first_track, first_tracks, position_of, start_of, heard_in, tick_in, last_heard}
 
 -- ---- the two phases before the start and from it on
 

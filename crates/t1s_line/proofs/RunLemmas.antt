@@ -1,7 +1,6 @@
 -- What is counted in a run, at its start and one tick later.
-use Rattle.std.proofs.Common.{◌≡◌, ℕ, suc, ◌+◌, ◌-◌, ◌^◌, ◌<◌, min, List, [], ◌∷◌, length, get_or, map, Bool, true, false, cond, Option, Some, None, refl, sym, ◌∙◌, ap, arith, add-one, add-zero, zero-add}
+use Rattle.std.proofs.Common.{◌≡◌, ℕ, suc, ◌+◌, ◌-◌, ◌^◌, ◌<◌, min, List, [], ◌∷◌, length, get_or, map, Bool, true, false, cond, Some, None, refl, sym, ◌∙◌, ap, arith, add-one, add-zero, zero-add}
 use Rattle.std.specs.Option.{option_or}
-use Rattle.t1s_symbols.specs.declared.Heard.{Heard}
 use Rattle.t1s_symbols.specs.declared.Heard.TheVariants.{Nothing}
 use Rattle.t1s_world.specs.Hearing.{heard}
 use Rattle.t1s_world.specs.Lists.{each_with}

@@ -1,10 +1,9 @@
 -- A node whose ID is not 0 and that has no frame never drives, whatever it hears.
-use Rattle.std.proofs.Common.{ℕ, zero, suc, ◌+◌, ◌-◌, ◌<◌, ◌≤◌, Bool, true, false, cond, eqb, ltb, leb, refl, rules, List, [], Some, None, ◌∙◌, ap, sym, ◌≡◌, ◌⊎◌, inl, inr}
-use Rattle.std.specs.Prelude.{slice_get, ◌&&◌, Option}
+use Rattle.std.proofs.Common.{ℕ, zero, suc, ◌+◌, ◌-◌, ◌<◌, Bool, true, false, cond, eqb, ltb, leb, refl, rules, List, [], Some, None, ◌∙◌, ap, ◌≡◌, inl, inr}
+use Rattle.std.specs.Prelude.{slice_get, ◌&&◌}
 use Rattle.std.proofs.lemmas.Bool.{cases_lt}
 use Rattle.std.proofs.lemmas.Bool.Decides.{nat_tests}
 use Rattle.t1s_symbols.specs.declared.Heard.{Heard}
-use Rattle.t1s_symbols.specs.declared.Quarter.{Quarter}
 use Rattle.t1s_world.specs.World.{heard_at}
 use Rattle.t1s_world.proofs.ListLemmas.{slice_get-map}
 use Rattle.t1s_world.proofs.WorldLemmas.{past-zero, kept_next, driven_is}
@@ -18,7 +17,7 @@ use Rattle.plca_control.specs.declared.State.{State}
 use Rattle.plca_control.specs.declared.State.TheVariants.{Disabled, Recover, Resync, Early, Beacon, Syncing, WaitTo, Receive, Commit, Transmit, Burst, Drain}
 use Rattle.plca_control.specs.State.{ControlState}
 use Rattle.plca_control.specs.ControlTable.{control_row, reach, is_beacon}
-use Rattle.t1s_node.specs.Node.{NodeState, reading_of, node_drive, node_hear}
+use Rattle.t1s_node.specs.Node.{NodeState, reading_of, node_drive}
 use Rattle.t1s_script.specs.declared.script.Script.{Script}
 use Rattle.t1s_script.specs.declared.script.NodeLine.{NodeLine}
 use Rattle.t1s_line.specs.declared.track.Track.{Track}

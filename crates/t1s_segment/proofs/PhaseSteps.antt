@@ -1,7 +1,6 @@
 -- Steps of the loops of a tick: one more node drives and puts it on the cable, one more node hears.
 use Rattle.std.proofs.Common.{◌≡◌, ℕ, zero, suc, ◌+◌, ◌<◌, ◌≤◌, Bool, true, false, List, [], ◌∷◌, ◌++◌, length, get_or, set, take, drop, map, replicate, Option, None, refl, ◌∙◌, ap, arith}
 use Rattle.std.specs.Prelude.{◌&&◌}
-use Rattle.std.specs.List.{list_all}
 use Rattle.std.proofs.lemmas.List.{append-nil, drop_all, length-map, length-take-le, length-replicate, map_push, take_all, take_more}
 use Rattle.std.proofs.lemmas.List.Concat.{flat_map-append}
 use Rattle.std.proofs.lemmas.List.Edits.{map_over_more}
@@ -16,10 +15,9 @@ use Rattle.t1s_world.proofs.ListLemmas.{get_or-unwritten, each_with_more, writte
 use Rattle.t1s_world.proofs.WorldLemmas.{length-hear_outcomes, hear_outcomes_more}
 use Rattle.t1s_cable.specs.Stands.{no_puts}
 use Rattle.t1s_script.specs.declared.script.NodeLine.{NodeLine}
-use Rattle.t1s_line.specs.declared.totals.NodeTotals.{NodeTotals}
 use Rattle.t1s_line.specs.EventRecords.{EventRecord}
 use Rattle.t1s_line.specs.Outcomes.{DriveOutcome, HearOutcome}
-use Rattle.t1s_line.specs.Runs.{after_outcome, all_ok, events_of, heard_tick}
+use Rattle.t1s_line.specs.Runs.{all_ok, events_of, heard_tick}
 use Rattle.t1s_segment.specs.State.{AreHeard}
 
 none_at : (n i : ℕ) → ◌≡◌ {A = Option Quarter} (get_or (replicate n None) i None) None

@@ -10,7 +10,8 @@ use Rattle.t1s_script.specs.Script.{IsScript, IsNodeLine}
 use Rattle.t1s_script.specs.declared.script.Script.{Script}
 use Rattle.t1s_script.specs.declared.script.NodeLine.{NodeLine}
 use Rattle.t1s_line.specs.declared.totals.NodeTotals.{NodeTotals}
-use Rattle.t1s_line.specs.World.{totals_from, totals_below, clash_at}
+use Rattle.t1s_line.specs.Runs.{totals_from}
+use Rattle.t1s_line.specs.World.{totals_below, clash_at}
 use Rattle.t1s_line.specs.Totals.{totals_with}
 use Rattle.t1s_world.specs.Events.{count_below}
 

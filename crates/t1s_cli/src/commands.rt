@@ -34,12 +34,15 @@ pub(crate) enum Command {
     OnCapture(CaptureTask),
 }
 
-/// The number of a node that a word writes: 0 to 15.
+/// The highest number of a node.
+const LAST_NUMBER: u64 = LAST_NODE as u64;
+
+/// The number of a node that a word writes: 0 to the highest one.
 fn node_number(word: &[u8]) -> Option<u8>
     ensures { (node : ℕ) → (result ≡ Some node) ↔ ((node ≤ last_node) × (word.now ≡ decimal node)) }
 {
     match read_number(word) {
-        Some(number) if number <= u64::from(LAST_NODE) => Some(number as u8),
+        Some(number) if number <= LAST_NUMBER => Some(number as u8),
         _ => None,
     }
 }

@@ -5,4 +5,5 @@ pub mod ScriptCalls
 pub mod WholeInput
 mod ThinScripts
 pub mod DecodeEnds
+pub mod FedPieces
 pub mod CaptureCalls

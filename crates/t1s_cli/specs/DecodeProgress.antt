@@ -1,12 +1,25 @@
 -- How far the decoding of octets has come, and how it ends.
-use Rattle.std.specs.Prelude.{◌≡◌, ◌≢◌, ℕ, ◌⊎◌, Bool, true, List, ◌++◌, Option}
+use Rattle.std.specs.Prelude.{◌≡◌, ◌≢◌, ◌↔◌, ℕ, ◌⊎◌, Bool, true, List, [], ◌∷◌, ◌++◌, length, Option}
 use Rattle.t1s_base.specs.Octets.{Grows, GrowsByPrefix}
+use Rattle.t1s_capture.specs.declared.decoder.Next.{Next}
+use Rattle.t1s_capture.specs.declared.decoder.Next.TheVariants.{Refused as RefusedNext}
+use Rattle.t1s_capture.specs.declared.items.Refusal.{Refusal}
+use Rattle.t1s_capture.specs.Answers.{YieldsItem, StandsAfter}
+use Rattle.t1s_capture.specs.DecodedItems.{DecodedItem, IsItemOctet}
+use Rattle.t1s_capture.specs.Offences.{IsFirstOffence}
 use Rattle.t1s_capture.specs.State.{DecoderState}
 use Rattle.t1s_capture.specs.Stands.{Stands}
 use Rattle.t1s_report.specs.DecodedText.{IsItemText, IsCaptureText, IsOffenceText, IsDecodedText}
 use Rattle.t1s_cli.specs.Faults.{HasFaultCause}
 use Rattle.t1s_cli.specs.declared.status.Status.{Status}
 use Rattle.t1s_cli.specs.declared.status.Status.TheVariants.{Done, Refused, WriteFault}
+
+-- What a decoder answers to an octet after those before it, where it stands for these: the item that is handed out at
+-- it, or its refusal, or that it goes on.
+pub record AnswersOctet (before : List ℕ) (octet : ℕ) (next : Next) : Type 0 where
+  pub item : (item : DecodedItem) → YieldsItem next item ↔ IsItemOctet before octet item
+  pub refused : (r : Refusal) → (next ≡ RefusedNext r) ↔ ((r.offset ≡ length before) × IsFirstOffence (before ++ octet ∷ []) r.offset r.why)
+  pub goes_on : StandsAfter (before ++ octet ∷ []) next
 
 -- A sink, where `written` tells what it holds and `faults` counts its faults, has grown by the lines of the items that
 -- the octets complete, and has not failed.

@@ -10,7 +10,7 @@ use Rattle.t1s_cli.specs.declared.status.Status.TheVariants.{Usage, ReadFault, W
 
 -- It read octets, where `left` tells what the source has left, and wrote what the task gives for them. They are read as
 -- all octets are that the source had left: those after the octet 1,048,577 stay there. A failed read ends the call
--- before anything is written, and so does a want of memory.
+-- before anything is written, and so does being out of memory.
 pub record ScriptCall {S K : Type 0} (left : S → Option (List ℕ)) (read_faults : S → ℕ) (written : K → Option (List ℕ)) (write_faults : K → ℕ) (finished : K → Bool) (task : ScriptTask) (source source' : S) (sink sink' : K) (status : Status) : Type 0 where
   pub octets : List ℕ
   pub cause : HasFaultCause (read_faults source) (read_faults source') ReadFault status

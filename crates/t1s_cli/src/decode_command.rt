@@ -1,6 +1,6 @@
-// The command `decode`: the items of a capture, written octet by octet as it is read.
+// The command `decode`: the items of a capture, written as it is read.
 ghost use Rattle.std.specs.Prelude.{◌≡◌, ℕ, List, [], ◌∷◌, ◌++◌, IfOk, IfErr};
-ghost use Rattle.t1s_cli.specs.DecodeProgress.{DecodeProgress, DecodeEnd, DecodeStop};
+ghost use Rattle.t1s_cli.specs.DecodeProgress.{AnswersOctet, ShownItems, DecodeProgress, DecodeEnd, DecodeStop};
 ghost use Rattle.t1s_cli.specs.CaptureCall.{CaptureCall};
 
 use crate::script_input::PIECE;
@@ -10,21 +10,16 @@ use t1s_base::{Failed, Line, Sink, Source};
 use t1s_capture::{Decoder, Next};
 use t1s_report::{end_line, item_line, offence_line};
 
-/// Takes one octet, and writes the line of the item that is handed out at it, or of its refusal. `Err` is the
-/// answer with which the decoding ends here. The line is room for what is written.
-fn decode_octet<K: Sink>(
-    decoder: Decoder,
-    octet: u8,
-    line: &mut Line,
-    sink: &mut K,
-) -> Result<Decoder, Status>
-    ensures ok { (first : K) (octets : List ℕ) → DecodeProgress K.written K.faults octets decoder first sink.old →
-        IfOk result (λ next. DecodeProgress K.written K.faults (octets ++ octet ∷ []) next first sink.new) }
-    ensures err { (first : K) (octets : List ℕ) → DecodeProgress K.written K.faults octets decoder first sink.old →
+/// Writes the line of the item that is handed out at an octet, or of its refusal. `Err` is the answer with which the
+/// decoding ends there. The line is room for what is written.
+fn write_answer<K: Sink>(next: Next, line: &mut Line, sink: &mut K) -> Result<Decoder, Status>
+    ensures ok { (first : K) (octets : List ℕ) (octet : ℕ) → AnswersOctet octets octet next → ShownItems K.written K.faults octets first sink.old →
+        IfOk result (λ decoder. DecodeProgress K.written K.faults (octets ++ octet ∷ []) decoder first sink.new) }
+    ensures err { (first : K) (octets : List ℕ) (octet : ℕ) → AnswersOctet octets octet next → ShownItems K.written K.faults octets first sink.old →
         IfErr result (λ status. DecodeStop K.written K.faults K.finished (octets ++ octet ∷ []) first sink.new status) }
 {
-    match decoder.step(octet) {
-        Next::More(next) => Ok(next),
+    match next {
+        Next::More(decoder) => Ok(decoder),
         Next::Held(held) => {
             item_line(line, &held.item());
             match sink.write(line.as_slice()) {
@@ -39,7 +34,7 @@ fn decode_octet<K: Sink>(
     }
 }
 
-/// Takes the octets of a piece, one after another.
+/// Takes the octets of a piece, up to each item that is handed out.
 fn decode_piece<K: Sink>(
     decoder: Decoder,
     piece: &[u8],
@@ -52,11 +47,14 @@ fn decode_piece<K: Sink>(
         IfErr result (λ status. DecodeStop K.written K.faults K.finished (octets ++ piece.now) first sink.new status) }
 {
     let mut decoder = decoder;
-    for octet in piece {
-        match decode_octet(decoder, *octet, line, sink) {
-            Ok(next) => decoder = next,
+    let mut at = 0;
+    while at < piece.len() {
+        let (count, next) = decoder.feed(&piece[at..]);
+        match write_answer(next, line, sink) {
+            Ok(after) => decoder = after,
             Err(status) => return Err(status),
         }
+        at += count;
     }
     Ok(decoder)
 }

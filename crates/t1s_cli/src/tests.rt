@@ -73,6 +73,21 @@ pub(crate) fn check_rows(
     Ok(())
 }
 
+/// Sees that these words give each input its text with this answer, where no call fails.
+pub(crate) fn check_texts(
+    rt: &impl Abort,
+    alloc: Global,
+    words: &[&str],
+    status: Status,
+    table: &[(&[u8], &[u8])],
+) -> Result<(), AllocError> {
+    for entry in table {
+        let row: Row<'_> = (entry.0, &[], &[], status, entry.1);
+        check_rows(rt, alloc, words, &[row])?;
+    }
+    Ok(())
+}
+
 #[test]
 fn scripts_are_run_or_refused(rt: HostRuntime) -> Result<(), Fail> {
     check_rows(
@@ -96,35 +111,36 @@ fn scripts_are_run_or_refused(rt: HostRuntime) -> Result<(), Fail> {
     Ok(())
 }
 
+/// Scripts that are refused, and the lines of the refusals.
+const REFUSED: [(&[u8], &[u8]); 7] = [
+    (b"t1s 1\nnod 0 0 0\n", b"refused 2 UnknownWord\n"),
+    (b"t1s 1\nto 15\n", b"refused 2 OutOfRange\n"),
+    (b"t1s 1\nto 032\n", b"refused 2 Number\n"),
+    (b"t1s 1\nend 10\n", b"refused 2 NoNode\n"),
+    (b"t1s 1\nnode 0 0 0\n", b"refused 3 NoEnd\n"),
+    (
+        b"t1s 1\ncount 3\nnode 0 0 0\nnode 1 1 2\nnode 2 2 5\nend 9\nend 9\n",
+        b"refused 7 AfterEnd\n",
+    ),
+    (
+        b"t1s 1\ncount 3\nnode 0 0 0\nnode 1 1 2\nnode 2 2 5\nlate 9 5\n",
+        b"refused 6 UnknownNode\n",
+    ),
+];
+
 #[test]
 fn refusals_of_scripts_are_written(rt: HostRuntime) -> Result<(), Fail> {
-    let table: [(&[u8], &[u8]); 7] = [
-        (b"t1s 1\nnod 0 0 0\n", b"refused 2 UnknownWord\n"),
-        (b"t1s 1\nto 15\n", b"refused 2 OutOfRange\n"),
-        (b"t1s 1\nto 032\n", b"refused 2 Number\n"),
-        (b"t1s 1\nend 10\n", b"refused 2 NoNode\n"),
-        (b"t1s 1\nnode 0 0 0\n", b"refused 3 NoEnd\n"),
-        (
-            b"t1s 1\ncount 3\nnode 0 0 0\nnode 1 1 2\nnode 2 2 5\nend 9\nend 9\n",
-            b"refused 7 AfterEnd\n",
-        ),
-        (
-            b"t1s 1\ncount 3\nnode 0 0 0\nnode 1 1 2\nnode 2 2 5\nlate 9 5\n",
-            b"refused 6 UnknownNode\n",
-        ),
-    ];
-    for (script, line) in table {
-        let row: Row<'_> = (script, &[], &[], Status::Refused, line);
-        check_rows(&rt, rt.alloc(), &["run"], &[row])?;
-    }
+    check_texts(&rt, rt.alloc(), &["run"], Status::Refused, &REFUSED)?;
     Ok(())
 }
 
 #[test]
 fn other_words_are_usage(rt: HostRuntime) -> Result<(), Fail> {
-    let wrong: [&[&str]; 7] = [
+    let wrong: [&[&str]; 9] = [
         &[],
         &["run", "run"],
+        &["check", "check"],
+        &["decode", "0"],
         &["capture"],
         &["capture", "16"],
         &["capture", "01"],
@@ -157,73 +173,59 @@ fn a_fault_ends_the_run(rt: HostRuntime) -> Result<(), Fail> {
     Ok(())
 }
 
-/// Sees that `check` writes this line for this script, and answers Done.
-fn check_line_of(rt: &impl Abort, alloc: Global, rows: &[(&str, &str)]) -> Result<(), AllocError> {
-    for row in rows {
-        let (input, text) = *row;
-        let octets = QuietSource::new(Vec::from_slice(alloc, input.as_bytes())?);
-        let (answer, written) = call(alloc, &["check"], octets, &[])?;
-        assert_eq!(rt; answer, Status::Done);
-        assert_eq!(rt; written.as_slice(), text.as_bytes(), "{input}");
-    }
-    Ok(())
-}
+/// Fit scripts, and what `check` writes for them.
+const FIT: [(&[u8], &[u8]); 3] = [
+    (
+        b"t1s 1\ncount 2\nrise 5\nnode 0 0 0\nnode 1 1 13\nend 10\n",
+        b"fit 13 64335\n",
+    ),
+    (
+        b"t1s 1\ncount 3\nnode 0 0 0\nnode 1 1 2\nnode 2 2 5\nend 10\n",
+        b"fit 5 76840\n",
+    ),
+    (
+        b"t1s 1\ncount 2\nnode 0 0 9\nnode 1 1 9\nend 10\n",
+        b"fit 0 64200\n",
+    ),
+];
+
+/// Scripts that aren't fit, and what `check` writes for them.
+const UNFIT: [(&[u8], &[u8]); 6] = [
+    (
+        b"t1s 1\ncount 2\nrise 4\nnode 0 0 0\nnode 1 1 14\nend 10\n",
+        b"unfit 7 32 32\n",
+    ),
+    (
+        b"t1s 1\ncount 2\nnode 0 0 9\nnode 1 0 9\nend 10\n",
+        b"unfit 1 2 1\n",
+    ),
+    (
+        b"t1s 1\ncount 2\nnode 0 1 9\nnode 1 1 9\nend 10\n",
+        b"unfit 1 0 1\n",
+    ),
+    (
+        b"t1s 1\ncount 2\nnode 0 0 9\nnode 1 2 9\nend 10\n",
+        b"unfit 3 2 2\n",
+    ),
+    (
+        b"t1s 1\ncount 2\nnode 0 0 9\nnode 1 1 9\nnode 2 1 9\nend 10\n",
+        b"unfit 2 2 1\n",
+    ),
+    (
+        b"t1s 1\ncount 2\nburst 16\nnode 0 0 9\nnode 1 1 9\nend 10\n",
+        b"unfit 6 16 15\n",
+    ),
+];
 
 #[test]
 fn check_tells_span_and_bound_of_a_fit_script(rt: HostRuntime) -> Result<(), Fail> {
-    check_line_of(
-        &rt,
-        rt.alloc(),
-        &[
-            (
-                "t1s 1\ncount 2\nrise 5\nnode 0 0 0\nnode 1 1 13\nend 10\n",
-                "fit 13 64335\n",
-            ),
-            (
-                "t1s 1\ncount 3\nnode 0 0 0\nnode 1 1 2\nnode 2 2 5\nend 10\n",
-                "fit 5 76840\n",
-            ),
-            (
-                "t1s 1\ncount 2\nnode 0 0 9\nnode 1 1 9\nend 10\n",
-                "fit 0 64200\n",
-            ),
-        ],
-    )?;
+    check_texts(&rt, rt.alloc(), &["check"], Status::Done, &FIT)?;
     Ok(())
 }
 
 #[test]
 fn check_names_the_first_unmet_premise(rt: HostRuntime) -> Result<(), Fail> {
-    check_line_of(
-        &rt,
-        rt.alloc(),
-        &[
-            (
-                "t1s 1\ncount 2\nrise 4\nnode 0 0 0\nnode 1 1 14\nend 10\n",
-                "unfit 7 32 32\n",
-            ),
-            (
-                "t1s 1\ncount 2\nnode 0 0 9\nnode 1 0 9\nend 10\n",
-                "unfit 1 2 1\n",
-            ),
-            (
-                "t1s 1\ncount 2\nnode 0 1 9\nnode 1 1 9\nend 10\n",
-                "unfit 1 0 1\n",
-            ),
-            (
-                "t1s 1\ncount 2\nnode 0 0 9\nnode 1 2 9\nend 10\n",
-                "unfit 3 2 2\n",
-            ),
-            (
-                "t1s 1\ncount 2\nnode 0 0 9\nnode 1 1 9\nnode 2 1 9\nend 10\n",
-                "unfit 2 2 1\n",
-            ),
-            (
-                "t1s 1\ncount 2\nburst 16\nnode 0 0 9\nnode 1 1 9\nend 10\n",
-                "unfit 6 16 15\n",
-            ),
-        ],
-    )?;
+    check_texts(&rt, rt.alloc(), &["check"], Status::Done, &UNFIT)?;
     Ok(())
 }
 
@@ -244,13 +246,6 @@ fn check_answers_as_run_does(rt: HostRuntime) -> Result<(), Fail> {
             (SCRIPT, &[], &[2], Status::WriteFault, fit),
         ],
     )?;
-    let twice = &["check", "check"];
-    check_rows(
-        &rt,
-        rt.alloc(),
-        twice,
-        &[(SCRIPT, &[], &[], Status::Usage, b"")],
-    )?;
     Ok(())
 }
 
@@ -264,10 +259,8 @@ node 1 sent 0 full 0 jam 0 drop 0 good 0 bad 0 clash 0\n";
 
 #[test]
 fn a_late_follower_waits_for_a_whole_beacon(rt: HostRuntime) -> Result<(), Fail> {
-    let octets = QuietSource::new(Vec::from_slice(rt.alloc(), LATE)?);
-    let (answer, written) = call(rt.alloc(), &["run"], octets, &[])?;
-    assert_eq!(rt; answer, Status::Done);
-    assert_eq!(rt; written.as_slice(), LATE_REPORT);
+    let row: Row<'_> = (LATE, &[], &[], Status::Done, LATE_REPORT);
+    check_rows(&rt, rt.alloc(), &["run"], &[row])?;
     Ok(())
 }
 
@@ -299,8 +292,8 @@ fn the_pieces_of_the_input_change_nothing(rt: HostRuntime) -> Result<(), Fail> {
 #[test]
 fn a_new_segment_is_played_to_its_end(rt: HostRuntime) -> Result<(), Fail> {
     let script = read_script(rt.alloc(), SCRIPT)?;
-    let mut segment = Segment::new(rt.alloc(), &script)?;
     let mut sink = MemSink::with_room(rt.alloc(), 4096, Vec::new(rt.alloc()))?;
+    let mut segment = Segment::new(rt.alloc(), &script)?;
     assert_eq!(rt; play(&mut segment, &mut sink), Ok(()));
     assert!(rt; segment.at_end());
     assert_eq!(rt; sink.written(), REPORT);

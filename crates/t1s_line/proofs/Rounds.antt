@@ -73,13 +73,13 @@ module _ (ids wait up down : ℕ) where
     pub carrier : n.carrier ≡ record { on = false; run = 0 }
 
   -- one tick, field by field
-  pub record Ticked (n : NodeState) (state : State) (y : Signal) : Type 0 where
+  pub record TickStep (n : NodeState) (state : State) (y : Signal) : Type 0 where
     pub set : IsSetTo (lone n) ids wait up down
     pub state_is : (lone n).core.control.state ≡ state
     pub driving : HasSignal (lone n) y
     pub carrier : (lone n).carrier ≡ carrier_step n.carrier (sounds y) up down
 
-  pub ticked : (n : NodeState) (state : State) (cmd : TxCmd) (x y : Signal) → IsSetTo n ids wait up down → HasSignal n x → InRange x → IsSpare cmd → control_row n.core.control.set n.core.control.state (told_control (reading_of n) n.core) ≡ (state, cmd) → signal_step x cmd ≡ y → Ticked n state y
+  pub ticked : (n : NodeState) (state : State) (cmd : TxCmd) (x y : Signal) → IsSetTo n ids wait up down → HasSignal n x → InRange x → IsSpare cmd → control_row n.core.control.set n.core.control.state (told_control (reading_of n) n.core) ≡ (state, cmd) → signal_step x cmd ≡ y → TickStep n state y
   ticked n state cmd x y set has low spare e step =
       let told : (given (reading_of n) n.core).1.cmd ≡ cmd = ap (λ (r : State × TxCmd). r.1) e in
       let d : DrivesTo (reading_of n) n.core (signal_tx y has.past) = signal_drives n x y cmd has low spare told step in

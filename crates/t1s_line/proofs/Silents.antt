@@ -120,11 +120,11 @@ driven_silent n h =
     }
 
 -- the same of a node that may not have started
-record TickNothing (t : ℕ) (k : Track) : Type 0 where
+record IdleTick (t : ℕ) (k : Track) : Type 0 where
   pub silent : IsSilent (drive_track t k).0.node
   pub quarter : (drive_track t k).1.quarter ≡ None
 
-drive_silent : (t : ℕ) (k : Track) → IsSilent k.node → TickNothing t k
+drive_silent : (t : ℕ) (k : Track) → IsSilent k.node → IdleTick t k
 drive_silent t k h = elim (cases_lt t k.start) [
   | inl lt ↦ record { silent = rw (drive_before t k lt) h; quarter = rw (drive_before t k lt) refl }
   | inr ge ↦

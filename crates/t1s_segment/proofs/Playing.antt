@@ -25,7 +25,7 @@ use Rattle.t1s_segment.specs.Stands.{Plays}
 
 module _ {N : Type 0} (m : Machine N DriveOutcome HearOutcome) where
   -- what one tick leaves of an engine, field by field. The cable's history has one row more
-  pub record Ticked (g h : EngineState N) : Type 0 where
+  pub record TickStep (g h : EngineState N) : Type 0 where
     pub tick : h.tick ≡ g.tick + 1
     pub end : h.end ≡ g.end
     pub places : h.cable.places ≡ g.cable.places
@@ -58,7 +58,7 @@ module _ {N : Type 0} (m : Machine N DriveOutcome HearOutcome) where
         sym (length-nodes m (places_in lines) first t)
         ∙ (ap (λ (ns : List N). length ns) (sym plays.nodes) ∙ (sizes ∙ (ap (λ (ps : List ℕ). length ps) plays.places ∙ length-map lines (λ (n : NodeLine). n.place))))
 
-    pub plays_next : (t : ℕ) (g h : EngineState N) → Plays m lines first end t g → length first ≡ length lines → g.tick < g.end → g.tick < 2 ^ 64 - 1 → Ticked g h → Plays m lines first end (t + 1) h
+    pub plays_next : (t : ℕ) (g h : EngineState N) → Plays m lines first end t g → length first ≡ length lines → g.tick < g.end → g.tick < 2 ^ 64 - 1 → TickStep g h → Plays m lines first end (t + 1) h
     plays_next t g h plays each left fits ticked =
         let places : List ℕ = places_in lines in
         let old : List (List (Option Quarter)) = (past m places first t).rows in

@@ -38,7 +38,7 @@ module _ (set : NodeSet) (room : ℕ) (draws : PickedDraws) (given : ℕ → Nod
   abbrev pub HearsWaves : ℕ → List Wave → Type 0
   HearsWaves now ws =
       (u : ℕ) → begin + u < now
-          → HeardOverWaves (begin + u) (arrived (begin + u + 1) ws) (given u).heard (is_some (node_drive_at started given u).quarter)
+      → HeardOverWaves (begin + u) (arrived (begin + u + 1) ws) (given u).heard (is_some (node_drive_at started given u).quarter)
 
   -- What it keeps as its own tick u finds it, and what the drive phase of this tick tells: carrier, receiver and control are as
   -- the waves say, nothing has met its drive; it drives what the waves say, and its status is OK exactly where control takes

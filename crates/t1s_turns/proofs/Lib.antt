@@ -24,3 +24,5 @@ pub mod OwnRunLaw
 pub mod FirstFrameQuiet
 pub mod QueueOrder
 pub mod LeavingsOnce
+pub mod Potential
+pub mod NextTurn

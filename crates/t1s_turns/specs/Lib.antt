@@ -7,3 +7,4 @@ pub mod Laws
 pub mod OwnRun
 pub mod FirstFrame
 pub mod Leavings
+pub mod NextOpportunity

@@ -3,6 +3,7 @@ ghost use Rattle.t1s_turns.specs.FirstFrame.{WaitsForQuiet};
 ghost use Rattle.t1s_turns.specs.Laws.{KeepsTurns};
 ghost use Rattle.t1s_turns.specs.Leavings.{LeavesOnce};
 ghost use Rattle.t1s_turns.specs.OwnRun.{OwnsARun};
+ghost use Rattle.t1s_turns.specs.NextOpportunity.{TurnComes};
 
 use t1s_mac::Draws;
 
@@ -25,4 +26,10 @@ pub fn waits_for_quiet<D: Draws>()
 /// No number leaves twice, where the numbers of the offers ascend by some rank.
 pub fn leaves_once<D: Draws>()
     ensures { LeavesOnce D.answer D.after }
+{}
+
+/// At a node that has seen a wave, each ID of its own has its opportunity within `count + 1` opportunities that are used
+/// to their end.
+pub fn turn_comes()
+    ensures { TurnComes }
 {}

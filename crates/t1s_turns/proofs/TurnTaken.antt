@@ -1,5 +1,5 @@
 -- A node over waves: when it hears nothing outside of its own opportunity, and that a frame which pends takes the turn.
-use Rattle.std.proofs.Common.{◌≡◌, ℕ, zero, suc, ◌+◌, ◌-◌, ◌*◌, ◌<◌, ◌≤◌, ◌⊎◌, inl, inr, Bool, true, false, nat_lt, List, [], ◌∷◌, Option, refl, sym, ◌∙◌, ap, subst, arith, rules}
+use Rattle.std.proofs.Common.{◌≡◌, ℕ, zero, suc, ◌+◌, ◌-◌, ◌*◌, ◌<◌, ◌≤◌, ◌⊎◌, inl, inr, Bool, true, false, List, [], ◌∷◌, Option, refl, sym, ◌∙◌, ap, subst, arith}
 use Rattle.std.specs.List.{All}
 use Rattle.std.specs.Prelude.{is_some}
 use Rattle.std.proofs.lemmas.Bool.{cases_lt, false≢true}
@@ -36,7 +36,7 @@ use Rattle.t1s_turns.proofs.ControlKept.{same_wave, own_behind}
 use Rattle.t1s_turns.proofs.Draws.{picked_draws}
 use Rattle.t1s_turns.proofs.NextTurn.{next_turn}
 use Rattle.t1s_turns.proofs.NodeKept.{is_cycle}
-use Rattle.t1s_turns.proofs.Turns.{turn_at}
+use Rattle.t1s_turns.proofs.Turns.{come, turn_at}
 
 -- ---- what is told up to a tick is told up to each earlier one
 
@@ -63,17 +63,6 @@ told_by n begin t now ws soon h = record { behind = h.behind; each = each_told n
 
 -- ---- carrier and control by the waves
 
--- a wave that has come
-has_come : (t : ℕ) (w : Wave) (rest ws : List Wave) → arrived t ws ≡ w ∷ rest → w.from < t
-has_come t w rest [] e = absurd (cc)
-has_come t w rest (v ∷ ws) e = elim (cases_lt v.from t) [
-  | inl lt ↦
-      let b : nat_lt v.from t ≡ true = search (rules, nat_tests) in
-      let head = (head_is v w ws rest (rw b at e)).0 in
-      omega (arith, lt, ap (λ (x : Wave). x.from) head)
-  | inr ge ↦ let b : nat_lt v.from t ≡ false = search (rules, nat_tests) in has_come t w rest ws (rw b at e)
-]
-
 -- no wave is over the place, and carrier has fallen behind the newest
 abbrev IsStill : CycleSettings → ℕ → List Wave → Type 0
 IsStill n t [] = Unit {0}
@@ -96,13 +85,13 @@ waits_unowned n t a _ (counts c m past at some few low most less) = refl
 
 still_unowned : (n : CycleSettings) (begin t : ℕ) (ws xs : List Wave) (st : State) (stage : Stage) (part : ℕ) → 1 ≤ n.fall → arrived t ws ≡ xs → IsStill n t xs
     → ControlOverWaves HasOpportunity n begin t ws st stage part → is_own st ≡ false
-still_unowned n begin t ws xs _ _ _ some come still (recovers coord at low) = refl
-still_unowned n begin t ws xs _ _ _ some come still (waits_for_beacon coord none) = refl
-still_unowned n begin t ws xs _ _ _ some come still (hears_first_wave coord none at rose long within) = refl
-still_unowned n begin t ws xs _ _ _ some come still (owns_beacon symbols coord at own flag from within time low left_is least) = refl
-still_unowned n begin t ws xs _ _ _ some come still (owns_run {a = a} {rest = rest} at own flag from within time sends) =
-    let over : IsStill n t (a ∷ rest) = subst (λ (ys : List Wave). IsStill n t ys) (sym come ∙ at) still in absurd (omega (arith, over, within, some))
-still_unowned n begin t ws xs st _ _ some come still (waits {a = a} newest there state) = waits_unowned n t a st state
+still_unowned n begin t ws xs _ _ _ some came still (recovers coord at low) = refl
+still_unowned n begin t ws xs _ _ _ some came still (waits_for_beacon coord none) = refl
+still_unowned n begin t ws xs _ _ _ some came still (hears_first_wave coord none at rose long within) = refl
+still_unowned n begin t ws xs _ _ _ some came still (owns_beacon symbols coord at own flag from within time low left_is least) = refl
+still_unowned n begin t ws xs _ _ _ some came still (owns_run {a = a} {rest = rest} at own flag from within time sends) =
+    let over : IsStill n t (a ∷ rest) = subst (λ (ys : List Wave). IsStill n t ys) (sym came ∙ at) still in absurd (omega (arith, over, within, some))
+still_unowned n begin t ws xs st _ _ some came still (waits {a = a} newest there state) = waits_unowned n t a st state
 
 -- a node that takes part in the cycle has seen a wave
 record Sees (n : CycleSettings) (t : ℕ) (ws : List Wave) : Type 0 where
@@ -147,15 +136,15 @@ waits_not n t a _ own within (counts c m past at some few low most less) = omega
 run_owned : (n : CycleSettings) → IsCycleSettings n → (begin t : ℕ) (ws : List Wave) → AreBehind n ws → (n.owns 0 ≡ true → OldestWave (IsFirstBeacon n begin) ws)
     → (w : Wave) (xs : List Wave) → arrived t ws ≡ w ∷ xs → w.own ≡ true → w.beacon ≡ false → begin ≤ w.from → t ≤ w.till
     → (st : State) (stage : Stage) (part : ℕ) → ControlOverWaves HasOpportunity n begin t ws st stage part → is_own st ≡ true
-run_owned n is begin t ws behind first w xs come own flag from within _ _ _ (recovers coord at low) =
-    let none : w ∷ xs ≡ [] = sym come ∙ none_before n (begin + 258 * n.to) t ws behind (oldest_from n begin ws (first coord)) (omega (arith, at, low)) in absurd (cc)
-run_owned n is begin t ws behind first w xs come own flag from within _ _ _ (waits_for_beacon coord none) = absurd (none w xs come own from)
-run_owned n is begin t ws behind first w xs come own flag from within _ _ _ (hears_first_wave coord none at rose long late) = absurd (none w xs come own from)
-run_owned n is begin t ws behind first w xs come own flag from within _ _ _ (owns_beacon {a = a} {rest = rest} symbols coord at mine kind since late time low left_is least) =
-    absurd (false≢true (sym flag ∙ (ap (λ (y : Wave). y.beacon) (head_is w a xs rest (sym come ∙ at)).0 ∙ kind)))
-run_owned n is begin t ws behind first w xs come own flag from within _ _ _ (owns_run at mine kind since late time sends) = sends
-run_owned n is begin t ws behind first w xs come own flag from within st _ _ (waits {a = a} {rest = rest} newest there state) =
-    let same : w ≡ a = (head_is w a xs rest (sym (own_seen n is t ws w xs behind come own) ∙ newest)).0 in
+run_owned n is begin t ws behind first w xs came own flag from within _ _ _ (recovers coord at low) =
+    let none : w ∷ xs ≡ [] = sym came ∙ none_before n (begin + 258 * n.to) t ws behind (oldest_from n begin ws (first coord)) (omega (arith, at, low)) in absurd (cc)
+run_owned n is begin t ws behind first w xs came own flag from within _ _ _ (waits_for_beacon coord none) = absurd (none w xs came own from)
+run_owned n is begin t ws behind first w xs came own flag from within _ _ _ (hears_first_wave coord none at rose long late) = absurd (none w xs came own from)
+run_owned n is begin t ws behind first w xs came own flag from within _ _ _ (owns_beacon {a = a} {rest = rest} symbols coord at mine kind since late time low left_is least) =
+    absurd (false≢true (sym flag ∙ (ap (λ (y : Wave). y.beacon) (head_is w a xs rest (sym came ∙ at)).0 ∙ kind)))
+run_owned n is begin t ws behind first w xs came own flag from within _ _ _ (owns_run at mine kind since late time sends) = sends
+run_owned n is begin t ws behind first w xs came own flag from within st _ _ (waits {a = a} {rest = rest} newest there state) =
+    let same : w ≡ a = (head_is w a xs rest (sym (own_seen n is t ws w xs behind came own) ∙ newest)).0 in
     absurd (waits_not n t a st (subst (λ (y : Wave). y.own ≡ true) same own) (subst (λ (y : Wave). t ≤ y.till) same within) state)
 
 module _ (set : NodeSet) (is_set : IsNodeSet set) (low_id : set.control.id < set.control.count) (room : ℕ) (draws : PickedDraws) (given : ℕ → NodeTick)
@@ -211,27 +200,27 @@ module _ (set : NodeSet) (is_set : IsNodeSet set) (low_id : set.control.id < set
     pub silence : (told (suc y)).reading.crs ≡ false
 
   quiet_behind : (t y high : ℕ) (xs : List Wave) → t ≤ y → y < high → suc y ≤ end → arrived (begin + suc y) ws ≡ xs → IsStill n (begin + suc y) xs → QuietTick t high
-  quiet_behind t y high xs from to within come still =
+  quiet_behind t y high xs from to within came still =
       let h = turn (suc y) within in
       record {
         y = y;
         from = from;
         to = to;
-        unowned = own_is y ∙ (ap (λ (c : Core PickedDraws). is_own c.control.state) (kept_is y) ∙ still_unowned n begin (begin + suc y) ws xs _ _ _ is.fall_low come still h.control);
-        silence = still_off n begin (begin + suc y) xs _ is.fall_low still (subst (λ (ys : List Wave). CarrierOverWaves n begin (begin + suc y) ys (node_at first given (suc y)).carrier) come h.carrier);
+        unowned = own_is y ∙ (ap (λ (c : Core PickedDraws). is_own c.control.state) (kept_is y) ∙ still_unowned n begin (begin + suc y) ws xs _ _ _ is.fall_low came still h.control);
+        silence = still_off n begin (begin + suc y) xs _ is.fall_low still (subst (λ (ys : List Wave). CarrierOverWaves n begin (begin + suc y) ys (node_at first given (suc y)).carrier) came h.carrier);
       }
 
   -- the newest wave stays the newest until carrier has fallen
   stays_newest : (k t : ℕ) (w : Wave) (rest : List Wave) → arrived t ws ≡ w ∷ rest → t + k ≤ w.till + n.fall → t + k ≤ begin + end → arrived (t + k) ws ≡ w ∷ rest
-  stays_newest zero t w rest come within soon = let here : t + zero ≡ t = omega arith in rw here come
-  stays_newest (suc k) t w rest come within soon =
-      let wave = (subst (λ (xs : List Wave). EachWave (IsWave n (begin + end)) xs) come (each_arrived (IsWave n (begin + end)) t ws waves.each)).0 in
+  stays_newest zero t w rest came within soon = let here : t + zero ≡ t = omega arith in rw here came
+  stays_newest (suc k) t w rest came within soon =
+      let wave = (subst (λ (xs : List Wave). EachWave (IsWave n (begin + end)) xs) came (each_arrived (IsWave n (begin + end)) t ws waves.each)).0 in
       let on : (t ≤ w.till) ⊎ ((w.from + n.rise ≤ w.till) × (t < w.till + n.fall)) = elim wave.over [
         | inl going ↦ inl (omega (arith, going, soon))
         | inr long ↦ inr (long, omega (arith, within))
       ] in
       let here : t + 1 + k ≡ t + suc k = omega arith in
-      rw (sym here) (stays_newest k (t + 1) w rest (same_wave n is t ws waves.behind w rest come on) (omega (arith, within)) (omega (arith, soon)))
+      rw (sym here) (stays_newest k (t + 1) w rest (same_wave n is t ws waves.behind w rest came on) (omega (arith, within)) (omega (arith, soon)))
 
   module _ (longest unit : ℕ) (most : EachWave (LastsAtMost longest) ws) (big : n.to + (longest + n.fall) ≤ unit) where
     -- from any tick on the node soon hears nothing outside of its own opportunity
@@ -239,18 +228,18 @@ module _ (set : NodeSet) (is_set : IsNodeSet set) (low_id : set.control.id < set
     quiet_tick t within = go (arrived (begin + suc t) ws) refl
       where
         go : (xs : List Wave) → arrived (begin + suc t) ws ≡ xs → QuietTick t (t + (longest + n.fall))
-        go [] come = quiet_behind t t (t + (longest + n.fall)) [] (omega arith) (omega (arith, is.fall_low)) (omega (arith, within, is.fall_low)) come tt
-        go (w ∷ rest) come = elim (cases_lt (begin + suc t) (w.till + n.fall)) [
+        go [] came = quiet_behind t t (t + (longest + n.fall)) [] (omega arith) (omega (arith, is.fall_low)) (omega (arith, within, is.fall_low)) came tt
+        go (w ∷ rest) came = elim (cases_lt (begin + suc t) (w.till + n.fall)) [
           | inl on ↦
-              let before = has_come (begin + suc t) w rest ws come in
-              let short = (subst (λ (xs : List Wave). EachWave (LastsAtMost longest) xs) come (each_arrived (LastsAtMost longest) (begin + suc t) ws most)).0 in
+              let before = come (begin + suc t) w rest ws came in
+              let short = (subst (λ (xs : List Wave). EachWave (LastsAtMost longest) xs) came (each_arrived (LastsAtMost longest) (begin + suc t) ws most)).0 in
               let k : ℕ = w.till + n.fall - (begin + suc t) in
               let y : ℕ = t + k in
               let same_tick : begin + suc t + k ≡ begin + suc y = omega (arith, on) in
-              let newest = stays_newest k (begin + suc t) w rest come (omega (arith, on)) (omega (arith, on, short, before, within)) in
+              let newest = stays_newest k (begin + suc t) w rest came (omega (arith, on)) (omega (arith, on, short, before, within)) in
               quiet_behind t y (t + (longest + n.fall)) (w ∷ rest) (omega arith) (omega (arith, on, short, before)) (omega (arith, on, short, before, within))
               (subst (λ m. arrived m ws ≡ w ∷ rest) same_tick newest) (omega (arith, on))
-          | inr over ↦ quiet_behind t t (t + (longest + n.fall)) (w ∷ rest) (omega arith) (omega (arith, is.fall_low)) (omega (arith, within, is.fall_low)) come over
+          | inr over ↦ quiet_behind t t (t + (longest + n.fall)) (w ∷ rest) (omega arith) (omega (arith, is.fall_low)) (omega (arith, within, is.fall_low)) came over
         ]
 
     -- ---- the turn

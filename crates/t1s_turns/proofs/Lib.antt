@@ -26,3 +26,7 @@ pub mod QueueOrder
 pub mod LeavingsOnce
 pub mod Potential
 pub mod NextTurn
+pub mod FrameWait
+pub mod FrameWay
+pub mod TurnTaken
+pub mod LeavingInTime

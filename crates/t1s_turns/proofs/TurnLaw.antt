@@ -34,7 +34,7 @@ use Rattle.t1s_turns.proofs.NodeInvariant.{NodeInvariant, kept_offers, kept_next
 use Rattle.t1s_turns.proofs.RunTurns.{SendsRun, sends_own}
 
 -- a wave that has come
-come : (t : ℕ) (w : Wave) (rest ws : List Wave) → arrived t ws ≡ w ∷ rest → w.from < t
+pub come : (t : ℕ) (w : Wave) (rest ws : List Wave) → arrived t ws ≡ w ∷ rest → w.from < t
 come t w rest [] e = absurd (cc)
 come t w rest (v ∷ ws) e = elim (cases_lt v.from t) [
   | inl lt ↦

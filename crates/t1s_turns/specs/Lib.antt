@@ -8,3 +8,4 @@ pub mod OwnRun
 pub mod FirstFrame
 pub mod Leavings
 pub mod NextOpportunity
+pub mod StartBound

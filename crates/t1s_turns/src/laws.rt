@@ -4,6 +4,7 @@ ghost use Rattle.t1s_turns.specs.Laws.{KeepsTurns};
 ghost use Rattle.t1s_turns.specs.Leavings.{LeavesOnce};
 ghost use Rattle.t1s_turns.specs.OwnRun.{OwnsARun};
 ghost use Rattle.t1s_turns.specs.NextOpportunity.{TurnComes};
+ghost use Rattle.t1s_turns.specs.StartBound.{LeavesInTime};
 
 use t1s_mac::Draws;
 
@@ -32,4 +33,10 @@ pub fn leaves_once<D: Draws>()
 /// to their end.
 pub fn turn_comes()
     ensures { TurnComes }
+{}
+
+/// A frame that stands behind `q` others in a node's queue leaves within `q + 1` times the bound of a start, wherever it is
+/// on its way, as far as the waves that pass the node are told.
+pub fn leaves_in_time()
+    ensures { LeavesInTime }
 {}

@@ -111,7 +111,7 @@ takes_part n is begin t ws behind _ _ _ on (waits {a = a} {rest = rest} newest t
 -- where the opportunity of its own ID begins, a node with a frame that is ready drives
 drives_then : (n : CycleSettings) → IsCycleSettings n → (begin t : ℕ) (ws : List Wave) → AreBehind n ws → (a : Wave) (rest : List Wave) (x : ℕ) → BeginsBehind n t ws a rest x → n.owns x ≡ true
     → (is_ready : Bool) → is_ready ≡ true → (quarter : Option Quarter) → DriveOverWaves n begin t ws is_ready quarter → is_some quarter ≡ true
-drives_then n is begin t ws behind a rest x begins mine is_ready some _ (quiet nothing) = absurd (false≢true (sym (nothing.passes a rest x begins mine) ∙ some))
+drives_then n is begin t ws behind a rest x begins mine is_ready some _ (quiet nothing) = absurd (false≢true (sym ((nothing.lapses a rest x begins).own mine) ∙ some))
 drives_then n is begin t ws behind a rest x begins mine is_ready some _ (goes_on k at own within time spells) = refl
 drives_then n is begin t ws behind a rest x begins mine is_ready some _ (ends w others at own within long) =
     let till = ap (λ (y : Wave). y.till) (head_is w a others rest (sym (own_seen n is t ws w others behind at own) ∙ begins.newest)).0 in

@@ -102,7 +102,7 @@ mod tests {
     #[test]
     fn octets_are_passed_on_where_the_room_is_full_and_at_a_flush(
         rt: HostRuntime,
-    ) -> core::result::Result<(), Fail> {
+    ) -> std::result::Result<(), Fail> {
         let piece = [0x5A; 1000];
         let mut writer = RoomWriter::new(Tally {
             calls: 0,

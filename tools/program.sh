@@ -5,7 +5,7 @@
 not_built=126
 no_toolchain=127
 # What a first build takes on four processors, measured on an idle machine.
-first_build='about a quarter of an hour on four processors, and 2 GB of disk'
+first_build='about a quarter of an hour on four processors, and 3 GB of disk'
 
 builder=
 begun=

@@ -39,6 +39,13 @@ impl Line {
     {
         self.octets.as_slice()
     }
+
+    /// Takes all octets out. The room stays as it is: nothing in it is written.
+    pub fn clear(&mut self)
+        ensures { self.new ≡ [] }
+    {
+        self.octets.clear();
+    }
 }
 
 /// The line would pass 4096 octets.

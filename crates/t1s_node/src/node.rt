@@ -2,7 +2,7 @@
 ghost use Rattle.std.specs.Prelude.{◌≡◌, ◌<◌, ◌↔◌, [], length, IsOk, IsErr, IsSome, IfErr, IfSome};
 ghost use Rattle.std.specs.Borrow.{sem};
 ghost use Rattle.t1s_symbols.specs.Ranges.{IsHeard, IsQuarter};
-ghost use Rattle.t1s_pcs_rx.specs.Leaves.{event_shown};
+ghost use Rattle.t1s_pcs_rx.specs.Leaves.{event_shown, EventFits};
 ghost use Rattle.t1s_pcs_rx.specs.ReceiveTable.{receive_event};
 ghost use Rattle.t1s_pcs_tx.specs.State.{is_closed};
 ghost use Rattle.t1s_pcs_tx.specs.TransmitTable.{transmit_step};
@@ -195,6 +195,7 @@ impl Node {
         requires { IsHeard h }
         ensures* after { sem 𝓛 (LeavesNode self.entry h) }
         ensures event { event_shown result.event ≡ receive_event self.old.receiver h self.old.drove }
+        ensures fits { EventFits result.event }
         ensures clash { result.clash ≡ is_clash self.old h }
     {
         let own = self.drove;

@@ -4,7 +4,7 @@ ghost use Rattle.std.specs.Borrow.{sem};
 ghost use Rattle.t1s_symbols.specs.Ranges.{IsHeard};
 ghost use Rattle.t1s_pcs_rx.specs.Receiver.{receive_start};
 ghost use Rattle.t1s_pcs_rx.specs.ReceiveTable.{receive_event};
-ghost use Rattle.t1s_pcs_rx.specs.Leaves.{event_shown, LeavesReceiver};
+ghost use Rattle.t1s_pcs_rx.specs.Leaves.{event_shown, EventFits, LeavesReceiver};
 
 use crate::piece::PieceView;
 use crate::reader::Reader;
@@ -58,6 +58,7 @@ impl PcsRx {
         requires { IsHeard h }
         ensures* after { sem 𝓛 (LeavesReceiver self.entry h own) }
         ensures event { event_shown result ≡ receive_event self.old h own }
+        ensures fits { EventFits result }
     {
         let Some(closing) = self.reader.step(h, own) else {
             return RxEvent::Nothing;

@@ -58,7 +58,7 @@ still_alive : (n : CycleSettings) (t now : ℕ) → t ≤ now → (ws : List Wav
 still_alive n t now soon [] h = tt
 still_alive n t now soon (w ∷ ws) h = omega (arith, h, soon)
 
-told_by : (n : CycleSettings) (begin t now : ℕ) (ws : List Wave) → t ≤ now → AreWaves n begin now ws → AreWaves n begin t ws
+pub told_by : (n : CycleSettings) (begin t now : ℕ) (ws : List Wave) → t ≤ now → AreWaves n begin now ws → AreWaves n begin t ws
 told_by n begin t now ws soon h = record { behind = h.behind; each = each_told n t now soon ws h.each; first = h.first; alive = still_alive n t now soon ws h.alive }
 
 -- ---- carrier and control by the waves

@@ -69,12 +69,12 @@ module _ (row left : List (Option Quarter)) (i : ℕ) (lt : i < length row) (wri
       (each_with_more pushed rings now (take i row) i b (get_or row i None) (omega arith) (length-take-le i row (omega arith)) e at)
 
 -- a row in which nothing is put tells of no node, and an empty ring of no tick
-none_put : (n i : ℕ) → ◌≡◌ {A = Option Quarter} (get_or (replicate n None) i None) None
+pub none_put : (n i : ℕ) → ◌≡◌ {A = Option Quarter} (get_or (replicate n None) i None) None
 none_put zero i = refl
 none_put (suc n) zero = refl
 none_put (suc n) (suc i) = none_put n i
 
-none_kept : (n i d span : ℕ) → ring_at (replicate n (buffer [] span)) i d ≡ None
+pub none_kept : (n i d span : ℕ) → ring_at (replicate n (buffer [] span)) i d ≡ None
 none_kept zero i d span = refl
 none_kept (suc n) zero d span = refl
 none_kept (suc n) (suc i) d span = none_kept n i d span

@@ -1,3 +1,4 @@
 pub mod Rings
+pub mod Silence
 pub mod State
 pub mod Stands

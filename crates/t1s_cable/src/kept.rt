@@ -1,9 +1,10 @@
 //! What a cable keeps of each node, and what a node hears of it.
-ghost use Rattle.std.specs.Prelude.{◌≡◌, ◌<◌, [], length, replicate, slice_index, None, IfOk};
+ghost use Rattle.std.specs.Prelude.{◌≡◌, ◌<◌, ◌-◌, ℕ, [], get_or, length, map, replicate, slice_index, None, IfOk};
 ghost use Rattle.circular_buffer.specs.Buffer.{buffer};
 ghost use Rattle.t1s_world.specs.Hearing.{arriving, farthest, heard, span};
 ghost use Rattle.t1s_world.specs.Lists.{each_with};
 ghost use Rattle.t1s_cable.specs.Rings.{kept_at, pushed, put_at};
+ghost use Rattle.t1s_cable.specs.Silence.{IsQuiet};
 
 use circular_buffer::HeapCircularBuffer;
 use std::alloc::{AllocError, Global};
@@ -40,6 +41,15 @@ pub fn new_ring(alloc: Global, span: u8) -> Result<Ring, AllocError>
     ensures { IfOk result (λ r. r ≡ buffer [] span) }
 {
     HeapCircularBuffer::with_capacity(alloc, usize::from(span))
+}
+
+/// Counts one tick less for each node.
+pub fn count_down(ticks: &mut [u16])
+    ensures { ticks.new ≡ map (λ (n : ℕ). n - 1) ticks.old }
+{
+    for left in ticks.iter_mut() {
+        *left = left.saturating_sub(1);
+    }
 }
 
 /// Ends a tick, node by node: its ring keeps what it drove, and it drives nothing yet in the next.
@@ -82,6 +92,7 @@ fn arriving(
     places: &[u8],
     row: &[Option<Quarter>],
     rings: &[Ring],
+    carried: &[u16],
     j: usize,
     i: usize,
 ) -> Option<Quarter>
@@ -89,8 +100,13 @@ fn arriving(
     requires other_in_range { i < length places.now }
     requires row { length row.now ≡ length places.now }
     requires rings { length rings.now ≡ length places.now }
+    requires carried { length carried.now ≡ length places.now }
+    requires quiet { IsQuiet (span places.now) (λ (k : ℕ). get_or carried.now k 0) (put_at row.now rings.now) }
     ensures { result ≡ arriving (put_at row.now rings.now) j (slice_index places.now j) i (slice_index places.now i) }
 {
+    if carried[i] == 0 {
+        return None;
+    }
     if i == j {
         None
     } else {
@@ -99,15 +115,23 @@ fn arriving(
 }
 
 /// What node j hears in this tick.
-pub fn hear_at(places: &[u8], row: &[Option<Quarter>], rings: &[Ring], j: usize) -> Heard
+pub fn hear_at(
+    places: &[u8],
+    row: &[Option<Quarter>],
+    rings: &[Ring],
+    carried: &[u16],
+    j: usize,
+) -> Heard
     requires in_range { j < length places.now }
     requires row { length row.now ≡ length places.now }
     requires rings { length rings.now ≡ length places.now }
+    requires carried { length carried.now ≡ length places.now }
+    requires quiet { IsQuiet (span places.now) (λ (k : ℕ). get_or carried.now k 0) (put_at row.now rings.now) }
     ensures { result ≡ heard (put_at row.now rings.now) places.now j }
 {
     let mut heard = Heard::Nothing;
     for i in 0..places.len() {
-        heard = heard_with(heard, arriving(places, row, rings, j, i));
+        heard = heard_with(heard, arriving(places, row, rings, carried, j, i));
     }
     heard
 }

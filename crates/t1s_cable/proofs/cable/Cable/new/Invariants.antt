@@ -8,5 +8,6 @@ invariant-loop-place l =
     record {
       kept : l.kept.items ≡ take l.place-index l.places;
       row : l.row.items ≡ replicate l.place-index None;
+      carried : l.carried.items ≡ replicate l.place-index 0;
       rings : l.rings.items ≡ replicate l.place-index (buffer [] (span l.initial.places));
     }

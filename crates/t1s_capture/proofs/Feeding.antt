@@ -2,7 +2,7 @@
 use Rattle.std.proofs.Common.{◌≡◌, ℕ, suc, ◌+◌, ◌<◌, ◌≤◌, List, [], ◌∷◌, ◌++◌, length, drop, refl, sym, ap, subst, ◌∙◌, arith, append_assoc, Bool, get_or, if◌then◌else◌, ◌^◌}
 use Rattle.std.specs.Prelude.{All, ◌↔◌}
 use Rattle.std.proofs.lemmas.Bool.{ne_eqb, eq-eqb}
-use Rattle.std.proofs.lemmas.List.{append-nil}
+use Rattle.std.proofs.lemmas.List.{append-nil, drop-drop}
 use Rattle.std.proofs.Math.ListN.{drop_of_length-le}
 use Rattle.std.proofs.Math.Seq.{drop-cons}
 use Rattle.std.proofs.lemmas.List.Elements.{All-head, All-tail}
@@ -18,6 +18,7 @@ use Rattle.t1s_capture.specs.Offences.{IsFirstOffence}
 use Rattle.t1s_capture.specs.DecodedItems.{IsItemOctet}
 use Rattle.t1s_capture.specs.Answers.{YieldsItem, StandsAfter, GoesOn, IsFed}
 use Rattle.t1s_capture.specs.DecoderTable.{advance, fed, feed_on, refuses, stage_step}
+use Rattle.t1s_capture.specs.StepAnswers.{IsSteppedTo, after_octets, decoder_at}
 use Rattle.t1s_capture.proofs.Steps.{begins, step_item, step_refused, step_stands}
 
 abbrev IsOctet : ℕ → Type 0
@@ -133,14 +134,6 @@ fed-one d o = by_next (advance d o)
 
 -- ---- the loop over a piece
 
--- a decoder by its progress and its stage
-abbrev pub decoder_at : Progress → Stage → DecoderState
-decoder_at p stage = record { taken = p.taken; counts = p.counts; reader = p.reader; stage = stage }
-
--- what is fed after so many octets
-abbrev pub after_octets : ℕ → ℕ × Next → ℕ × Next
-after_octets n x = (n + x.0, x.1)
-
 pub after_none : (x : ℕ × Next) → x ≡ after_octets 0 x
 after_none x = let none : 0 + x.0 ≡ x.0 = omega arith in ap (λ (n : ℕ). (n, x.1)) (sym none)
 
@@ -166,24 +159,23 @@ module _ (d : DecoderState) (piece : List ℕ) (i : ℕ) (p : Progress) (stage :
       sym (next_at (refuses p TooLong) within
       (ap (λ (b : Bool). if b then refuses p TooLong else stage_step stage p (get_or piece i 0)) (eq-eqb p.taken (2 ^ 30) full)))
 
-  pub held_at : (held : HeldState) → i < length piece → (p.taken ≡ 2 ^ 30 → ⊥) → Held held ≡ stage_step stage p (get_or piece i 0)
-      → (i + 1, Held held) ≡ fed d piece
-  held_at held within below is = sym (next_at (Held held) within (stage_next (Held held) below is))
+  -- the octet at place i is stepped
+  pub stepped_at : (next : Next) → i < length piece → (p.taken ≡ 2 ^ 30 → ⊥) → next ≡ stage_step stage p (get_or piece i 0)
+      → IsSteppedTo d piece i next
+  stepped_at next within below is = next_at next within (stage_next next below is)
 
-  pub refused_at : (r : Refusal) → i < length piece → (p.taken ≡ 2 ^ 30 → ⊥) → Refused r ≡ stage_step stage p (get_or piece i 0)
-      → (i + 1, Refused r) ≡ fed d piece
-  refused_at r within below is = sym (next_at (Refused r) within (stage_next (Refused r) below is))
-
-  pub more_at : (q : Progress) (other : Stage) → i < length piece → (p.taken ≡ 2 ^ 30 → ⊥)
-      → More (decoder_at q other) ≡ stage_step stage p (get_or piece i 0) → IsFedTo d piece (i + 1) q other
-  more_at q other within below is =
-      let one : i + 1 ≡ suc i = omega arith in
-      next_at (More (decoder_at q other)) within (stage_next (More (decoder_at q other)) below is)
-      ∙ counted (fed (decoder_at q other) (drop (suc i) piece))
-      ∙ ap (λ (k : ℕ). after_octets (i + 1) (fed (decoder_at q other) (drop k piece))) (sym one)
+  -- more octets are stepped in one go
+  pub stepped_on : (k : ℕ) (next : Next) → IsSteppedTo (decoder_at p stage) (drop i piece) k next → IsSteppedTo d piece (i + k) next
+  stepped_on k next is =
+      let places : i + suc k ≡ suc (i + k) = omega arith in
+      so_far
+      ∙ ap (λ (x : ℕ × Next). after_octets i x) is
+      ∙ ap (λ (os : List ℕ). after_octets i (after_octets k (feed_on next (λ e. fed e os)))) (drop-drop (suc k) i piece)
+      ∙ ap (λ (n : ℕ). after_octets i (after_octets k (feed_on next (λ e. fed e (drop n piece))))) places
+      ∙ twice (feed_on next (λ e. fed e (drop (suc (i + k)) piece)))
     where
-      counted : (x : ℕ × Next) → after_octets i (suc x.0, x.1) ≡ after_octets (i + 1) x
-      counted x = let e : i + suc x.0 ≡ i + 1 + x.0 = omega arith in ap (λ (n : ℕ). (n, x.1)) e
+      twice : (x : ℕ × Next) → after_octets i (after_octets k x) ≡ after_octets (i + k) x
+      twice x = let e : i + (k + x.0) ≡ i + k + x.0 = omega arith in ap (λ (n : ℕ). (n, x.1)) e
 
   pub end_at : length piece ≤ i → i ≤ length piece → (length piece, More (decoder_at p stage)) ≡ fed d piece
   end_at over within =
@@ -191,3 +183,26 @@ module _ (d : DecoderState) (piece : List ℕ) (i : ℕ) (p : Progress) (stage :
       ap (λ (n : ℕ). (n, More (decoder_at p stage))) (sym all)
       ∙ ap (λ (os : List ℕ). after_octets i (fed (decoder_at p stage) os)) (sym (drop_of_length-le piece over))
       ∙ sym so_far
+
+-- ---- what a step leads to
+
+-- nothing is stepped yet
+pub none_yet : (d : DecoderState) (piece : List ℕ) (p : Progress) (stage : Stage) → d ≡ decoder_at p stage → IsFedTo d piece 0 p stage
+none_yet d piece p stage is = ap (λ (x : DecoderState). fed x piece) is ∙ after_none (fed (decoder_at p stage) piece)
+
+module _ (d : DecoderState) (piece : List ℕ) (i : ℕ) where
+  pub held_at : (held : HeldState) → IsSteppedTo d piece i (Held held) → (i + 1, Held held) ≡ fed d piece
+  held_at held is = sym is
+
+  pub refused_at : (r : Refusal) → IsSteppedTo d piece i (Refused r) → (i + 1, Refused r) ≡ fed d piece
+  refused_at r is = sym is
+
+  pub more_at : (q : Progress) (other : Stage) → IsSteppedTo d piece i (More (decoder_at q other)) → IsFedTo d piece (i + 1) q other
+  more_at q other is =
+      let one : i + 1 ≡ suc i = omega arith in
+      is
+      ∙ counted (fed (decoder_at q other) (drop (suc i) piece))
+      ∙ ap (λ (k : ℕ). after_octets (i + 1) (fed (decoder_at q other) (drop k piece))) (sym one)
+    where
+      counted : (x : ℕ × Next) → after_octets i (suc x.0, x.1) ≡ after_octets (i + 1) x
+      counted x = let e : i + suc x.0 ≡ i + 1 + x.0 = omega arith in ap (λ (n : ℕ). (n, x.1)) e

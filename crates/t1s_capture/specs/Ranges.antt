@@ -1,5 +1,5 @@
 -- The ranges of the numbers that a decoder keeps.
-use Rattle.std.specs.Prelude.{◌≡◌, ℕ, ◌+◌, ◌-◌, ◌*◌, ◌≤◌, ◌<◌, ◌^◌, length}
+use Rattle.std.specs.Prelude.{◌≡◌, ℕ, ◌+◌, ◌-◌, ◌*◌, ◌≤◌, ◌<◌, ◌^◌, length, Bool, true, false}
 use Rattle.t1s_symbols.specs.declared.Symbol.{Symbol}
 use Rattle.t1s_symbols.specs.declared.Symbol.TheVariants.{Nibble, J, K, T, R, H, N, S}
 use Rattle.t1s_grammar.specs.declared.place.Phase.{Phase}
@@ -62,6 +62,17 @@ NibblesAfter J before place = nibbles_at place ≡ before
 NibblesAfter T before place = nibbles_at place ≡ before
 NibblesAfter H before place = nibbles_at place ≡ before
 NibblesAfter N before place = nibbles_at place ≡ before
+
+-- whether a symbol ends a piece
+abbrev pub closes : Symbol → Bool
+closes (Nibble n) = false
+closes R = true
+closes K = true
+closes S = true
+closes J = false
+closes T = false
+closes H = false
+closes N = false
 
 -- the same ranges where one more symbol was judged, and its octet is not counted yet
 pub record FitsSymbol (p : Progress) (s : Symbol) (groups : ℕ) (burst : BurstSoFar) : Type 0 where

@@ -1,13 +1,24 @@
 -- What a step of a decoder leads to, with the progress that it leaves.
-use Rattle.std.specs.Prelude.{◌+◌}
+use Rattle.std.specs.Prelude.{◌≡◌, ℕ, suc, ◌+◌, List, drop, Result, Ok, Err}
 use Rattle.t1s_pcs_rx.specs.PieceReading.{without_nibbles}
+use Rattle.t1s_capture.specs.declared.items.Why.{Why}
+use Rattle.t1s_capture.specs.declared.stage.BurstSoFar.{BurstSoFar}
+use Rattle.t1s_capture.specs.declared.stage.Stage.{Stage}
+use Rattle.t1s_capture.specs.declared.stage.Stage.TheVariants.{InBurst}
 use Rattle.t1s_capture.specs.declared.progress.Progress.{Progress}
 use Rattle.t1s_capture.specs.declared.progress.Step.{Step}
 use Rattle.t1s_capture.specs.declared.progress.Step.TheVariants.{Goes, Yields, Refuses}
 use Rattle.t1s_capture.specs.declared.decoder.Next.{Next}
+use Rattle.t1s_capture.specs.declared.decoder.Next.TheVariants.{More, Held}
 use Rattle.t1s_capture.specs.HeldItems.{held_item}
-use Rattle.t1s_capture.specs.DecoderTable.{goes, yields, refuses}
+use Rattle.t1s_capture.specs.State.{DecoderState}
+use Rattle.t1s_capture.specs.DecoderTable.{fed, feed_on, goes, yields, refuses}
 use Rattle.t1s_capture.specs.Ranges.{Fits}
+
+-- what a symbol that ends no piece leads to
+abbrev pub passed_next : Result BurstSoFar Why → Progress → Next
+passed_next (Ok burst) p = goes p (InBurst burst)
+passed_next (Err why) p = refuses p why
 
 -- the octet of the step is not counted yet in the progress
 abbrev pub step_next : Step → Progress → Next
@@ -27,3 +38,28 @@ abbrev pub StepFits : Step → Progress → Type 0
 StepFits (Goes stage) p = Fits (counted p) stage
 StepFits (Yields item stage) p = Fits (let_go (counted p)) stage
 StepFits (Refuses why) p = Unit {0}
+
+-- ---- many octets
+
+-- a decoder by its progress and its stage
+abbrev pub decoder_at : Progress → Stage → DecoderState
+decoder_at p stage = record { taken = p.taken; counts = p.counts; reader = p.reader; stage = stage }
+
+-- what is fed after so many octets
+abbrev pub after_octets : ℕ → ℕ × Next → ℕ × Next
+after_octets n x = (n + x.0, x.1)
+
+-- the octets before this place hand out nothing and are not refused, and the one there leads to this
+abbrev pub IsSteppedTo : DecoderState → List ℕ → ℕ → Next → Type 0
+IsSteppedTo d octets place next = fed d octets ≡ after_octets place (feed_on next (λ e. fed e (drop (suc place) octets)))
+
+-- what the last octet of many leads to. It is counted in the progress where it isn't refused
+abbrev pub last_next : Step → Progress → Next
+last_next (Goes stage) p = More (decoder_at p stage)
+last_next (Yields item stage) p = Held (record { item = held_item item p.reader.nibbles; decoder = decoder_at (let_go p) stage })
+last_next (Refuses why) p = refuses p why
+
+abbrev pub LastFits : Step → Progress → Type 0
+LastFits (Goes stage) p = Fits p stage
+LastFits (Yields item stage) p = Fits (let_go p) stage
+LastFits (Refuses why) p = Unit {0}

@@ -6,9 +6,6 @@ use crate::stage::Stage;
 use std::marker::Model;
 use t1s_pcs_rx::PieceReader;
 
-/// The most octets that a capture may have.
-const LIMIT: u64 = 1 << 30;
-
 /// Reads a capture octet by octet.
 #[derive(Drop)]
 pub struct Decoder {
@@ -150,35 +147,16 @@ impl Decoder {
     }
 
     /// The octets by the table of stages, one after another.
+    #[inline(always)]
     fn run(self, piece: &[u8]) -> (usize, Next)
         ensures { result ≡ fed self piece.now }
     {
         let Decoder {
             mut progress,
-            mut stage,
+            stage,
         } = self;
-        for index in 0..piece.len() {
-            if progress.taken == LIMIT {
-                return (index + 1, progress.refuses(Why::TooLong));
-            }
-            match progress.step(stage, piece[index]) {
-                Step::Goes(next) => {
-                    progress.taken += 1;
-                    stage = next;
-                }
-                Step::Yields(item, stage) => {
-                    progress.taken += 1;
-                    let held = Held {
-                        item,
-                        progress,
-                        stage,
-                    };
-                    return (index + 1, Next::Held(held));
-                }
-                Step::Refuses(why) => return (index + 1, progress.refuses(why)),
-            }
-        }
-        (piece.len(), Next::More(Decoder { progress, stage }))
+        let (count, step) = progress.run(stage, piece);
+        (count, progress.leads(step))
     }
 
     /// The end by the stage.
@@ -212,27 +190,39 @@ impl Held {
     pub fn release(self) -> Decoder
         ensures decoder { result ≡ self.decoder }
     {
-        let Held {
-            item: _,
-            mut progress,
-            stage,
-        } = self;
-        progress.reader.clear();
-        Decoder { progress, stage }
+        let mut held = self;
+        held.progress.reader.clear();
+        Decoder {
+            progress: held.progress,
+            stage: held.stage,
+        }
     }
 }
 
 impl Progress {
     ghost use Rattle.std.specs.Prelude.{◌≡◌};
-    ghost use Rattle.t1s_capture.specs.DecoderTable.{refuses};
+    ghost use Rattle.t1s_capture.specs.StepAnswers.{LastFits, last_next};
 
-    /// The octet is refused.
-    fn refuses(&self, why: Why) -> Next
-        ensures { result ≡ refuses self.now why }
+    /// What the last octet led to, which is counted where it isn't refused.
+    #[inline(always)]
+    fn leads(self, step: Step) -> Next
+        requires { LastFits step self }
+        ensures { result ≡ last_next step self }
     {
-        Next::Refused(Refusal {
-            offset: self.taken,
-            why,
-        })
+        match step {
+            Step::Goes(stage) => Next::More(Decoder {
+                progress: self,
+                stage,
+            }),
+            Step::Yields(item, stage) => Next::Held(Held {
+                progress: self,
+                stage,
+                item,
+            }),
+            Step::Refuses(why) => Next::Refused(Refusal {
+                offset: self.taken,
+                why,
+            }),
+        }
     }
 }

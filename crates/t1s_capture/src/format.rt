@@ -10,3 +10,6 @@ pub const GAP: u8 = 0x20;
 pub const END: u8 = 0x21;
 /// Ends the symbols of a torn burst.
 pub const TORN: u8 = 0x22;
+
+/// The most octets that a capture may have.
+pub const LIMIT: u64 = 1 << 30;

@@ -22,6 +22,7 @@ mod octets;
 mod progress;
 mod row;
 mod stage;
+mod stretch;
 #[cfg(test)]
 mod tests;
 mod writer;

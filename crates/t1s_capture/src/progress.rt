@@ -264,7 +264,7 @@ impl Progress {
         }
     }
 
-    fn in_burst(&mut self, burst: BurstSoFar, kind: OctetKind) -> Step
+    pub fn in_burst(&mut self, burst: BurstSoFar, kind: OctetKind) -> Step
         requires below { self.old.taken < 2 ^ 30 }
         requires fits { Fits self.old (InBurst burst) }
         requires symbol { OctetKindInRange kind }
@@ -412,7 +412,7 @@ impl Progress {
         ensures fits { StepFits result self.new }
         ensures taken { self.new.taken ≡ self.old.taken }
     {
-        self.reader.take(groups, Symbol::Nibble(nibble));
+        let burst = self.passed(Symbol::Nibble(nibble), groups, burst);
         self.goes(Stage::InBurst(burst))
     }
 

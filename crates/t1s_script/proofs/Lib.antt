@@ -5,3 +5,4 @@ pub mod Drafts
 pub mod Validity
 pub mod Premises
 pub mod ThinScripts
+mod HexTexts

@@ -1,21 +1,24 @@
 -- The nodes of the slots of a draft.
-use Rattle.std.proofs.Common.{◌≡◌, ℕ, zero, suc, ◌+◌, ◌<◌, ◌≤◌, true, List, [], ◌∷◌, length, get_or, map, Option, Some, None, refl, arith, All, unwrap_or}
+use Rattle.std.proofs.Common.{◌≡◌, ℕ, zero, suc, ◌+◌, ◌<◌, ◌≤◌, true, List, [], ◌∷◌, length, get_or, Option, Some, None, refl, arith, All, unwrap_or}
 use Rattle.std.specs.Prelude.{is_some}
-use Rattle.std.specs.List.{list_any}
+use Rattle.std.specs.List.{list_any, Contains}
 use Rattle.std.specs.List.Sorted.{IsStrictlyIncreasing}
 use native.Mathlib.Numerals.{unary_clauses}
 use Rattle.std.proofs.lemmas.List.Elements.{All-cons, All-nil}
 use Rattle.t1s_base.specs.Limits.{most_nodes, last_node, most_ticks}
+use Rattle.t1s_script.specs.Limits.{most_draws, last_draw}
+use Rattle.t1s_script.specs.Reading.{draw_list}
 use Rattle.t1s_script.specs.Draft.{node_of, nodes_from}
-use Rattle.t1s_script.specs.Script.{IsNodeLine}
+use Rattle.t1s_script.specs.Script.{AreDraws, IsNodeLine, numbers_of}
 use Rattle.t1s_script.specs.declared.draft.Slot.{Slot}
-use Rattle.t1s_script.specs.declared.script.NodeLine.{NodeLine}
 
 -- the numbers of a slot are in their ranges
 pub record IsSlot (slot : Slot) : Type 0 where
   pub id : slot.id ≤ 255
   pub place : slot.place ≤ 255
   pub start : (t : ℕ) → slot.start ≡ Some t → t ≤ most_ticks
+  pub few_draws : length slot.draws ≤ most_draws
+  pub draws : All (λ draw. draw ≤ last_draw) slot.draws
 
 -- each slot that is taken is in range
 pub record AreSlots (slots : List (Option Slot)) : Type 0 where
@@ -28,6 +31,10 @@ start_range : (o : Option ℕ) → ((t : ℕ) → o ≡ Some t → t ≤ most_ti
 start_range None h = omega arith
 start_range (Some t) h = h t refl
 
+draws_range : (draws : List ℕ) → length draws ≤ most_draws → All (λ draw. draw ≤ last_draw) draws → AreDraws (draw_list draws)
+draws_range [] few h = tt
+draws_range (draw ∷ draws) few h = (few, h)
+
 node_range : (to number : ℕ) (slot : Slot) → 16 ≤ to → to ≤ 255 → number ≤ last_node → IsSlot slot → IsNodeLine (node_of to number slot)
 node_range to number slot low high few h = record {
   no_high = few;
@@ -36,6 +43,7 @@ node_range to number slot low high few h = record {
   to_low = low;
   to_high = high;
   start_high = start_range slot.start h.start;
+  draws = draws_range slot.draws h.few_draws h.draws;
 }
 
 pub nodes_range : (to number : ℕ) (slots : List (Option Slot)) → 16 ≤ to → to ≤ 255 → number + length slots ≤ most_nodes → AreSlots slots → All IsNodeLine (nodes_from to number slots)
@@ -58,11 +66,8 @@ some_node to number (Some slot ∷ slots) e = omega arith
 
 -- ---- their order
 
-abbrev pub numbers : List NodeLine → List ℕ
-numbers nodes = map (λ (n : NodeLine). n.no) nodes
-
 -- the numbers of the nodes from a slot on are that slot's at least
-numbers_above : (to number : ℕ) (slots : List (Option Slot)) (k : ℕ) → k < length (numbers (nodes_from to number slots)) → number ≤ get_or (numbers (nodes_from to number slots)) k 0
+numbers_above : (to number : ℕ) (slots : List (Option Slot)) (k : ℕ) → k < length (numbers_of (nodes_from to number slots)) → number ≤ get_or (numbers_of (nodes_from to number slots)) k 0
 numbers_above to number [] k below = absurd (omega arith)
 numbers_above to number (None ∷ slots) k below = omega (arith, numbers_above to (number + 1) slots k below)
 numbers_above to number (Some slot ∷ slots) zero below = omega arith
@@ -72,9 +77,19 @@ increasing_cons : (x : ℕ) (xs : List ℕ) → IsStrictlyIncreasing xs → ((k 
 increasing_cons x xs up above zero h = above 0 (omega arith)
 increasing_cons x xs up above (suc k) h = simp unary_clauses (simp unary_clauses at (up k (omega arith)))
 
-pub nodes_increase : (to number : ℕ) (slots : List (Option Slot)) → IsStrictlyIncreasing (numbers (nodes_from to number slots))
+pub nodes_increase : (to number : ℕ) (slots : List (Option Slot)) → IsStrictlyIncreasing (numbers_of (nodes_from to number slots))
 nodes_increase to number [] = λ k h. absurd (omega arith)
 nodes_increase to number (None ∷ slots) = nodes_increase to (number + 1) slots
 nodes_increase to number (Some slot ∷ slots) =
-    increasing_cons number (numbers (nodes_from to (number + 1) slots)) (nodes_increase to (number + 1) slots)
+    increasing_cons number (numbers_of (nodes_from to (number + 1) slots)) (nodes_increase to (number + 1) slots)
     (λ k below. omega (arith, numbers_above to (number + 1) slots k below))
+
+-- the number of a slot that is taken is that of a node
+pub number_stands : (to number k : ℕ) (slots : List (Option Slot)) (i : ℕ) → k ≡ number + i → is_some (get_or slots i None) ≡ true → Contains (numbers_of (nodes_from to number slots)) k
+number_stands to number k [] i place taken = cc
+number_stands to number k (None ∷ slots) zero place taken = cc
+number_stands to number k (None ∷ slots) (suc i) place taken = number_stands to (number + 1) k slots i (omega arith) taken
+number_stands to number k (Some slot ∷ slots) zero place taken = (0, omega arith, omega arith)
+number_stands to number k (Some slot ∷ slots) (suc i) place taken =
+    let later = number_stands to (number + 1) k slots i (omega arith) taken in
+    (suc later.0, omega (arith, later.1), later.2)

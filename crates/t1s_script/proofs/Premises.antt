@@ -1,10 +1,15 @@
 -- A script is fit exactly where no premise is unmet.
-use Rattle.std.proofs.Common.{◌≡◌, ◌≢◌, ℕ, zero, suc, ◌+◌, ◌*◌, ◌<◌, ◌≤◌, ◌⊎◌, inl, inr, Bool, true, false, cond, leb, ltb, List, [], ◌∷◌, ◌++◌, length, get_or, Option, Some, None, refl, sym, ◌∙◌, ap, subst, arith, All}
-use Rattle.std.specs.Prelude.{◌==◌, not, nat_le, find, slice_get, IsOk, Result}
+use Rattle.std.proofs.Common.{◌≡◌, ◌≢◌, ℕ, zero, suc, ◌+◌, ◌*◌, ◌<◌, ◌≤◌, ◌⊎◌, inl, inr, Bool, true, false, cond, leb, ltb, List, [], ◌∷◌, ◌++◌, length, get_or, take, drop, Option, Some, None, refl, sym, ◌∙◌, ap, subst, arith, All}
+use Rattle.std.specs.Prelude.{◌==◌, not, nat_le, find, slice_get, option_map, IsOk, Result}
+use Rattle.std.proofs.lemmas.List.{drop_more, take_more}
+use Rattle.std.proofs.lemmas.List.Elements.{All-cons, All-nil}
 use Rattle.std.proofs.lemmas.Bool.Decides.{nat_tests}
 use Rattle.std.proofs.lemmas.Option.{slice_get-get_or, slice_get_within, get_or_from_slice_get}
-use Rattle.t1s_script.specs.Fit.{coordinators, fitness_of, high_id, IsFit, or_else, other_timer, repeat_or, span_of, unfit, unmet, with_high_id, with_long_bursts, with_long_cable, with_other_timer, with_repeat, with_repeat_after, without_one_coordinator}
+use Rattle.t1s_script.specs.Fit.{coordinators, fitness_of, high_id, IsFit, is_noise, noise_or, or_else, other_timer, repeat_or, span_of, unfit, unmet, with_high_id, with_long_bursts, with_long_cable, with_noise, with_other_timer, with_repeat, with_repeat_after, without_one_coordinator}
 use Rattle.t1s_script.specs.declared.fitness.Unfit.{Unfit}
+use Rattle.t1s_script.specs.declared.script.Act.{Act}
+use Rattle.t1s_script.specs.declared.script.Deed.{Deed}
+use Rattle.t1s_script.specs.declared.script.Deed.TheVariants.{Offer, Noise}
 use Rattle.t1s_script.specs.declared.script.NodeLine.{NodeLine}
 use Rattle.t1s_script.specs.declared.script.Script.{Script}
 
@@ -110,6 +115,52 @@ other_none : (to : ℕ) (o : Option NodeLine) → other_timer to o ≡ None → 
 other_none to (Some n) e = cc
 other_none to None e = refl
 
+-- ---- noise
+
+abbrev Silent : Act → Type 0
+Silent a = is_noise a.deed ≡ false
+
+quiet_from_none : (acts : List Act) → with_noise acts ≡ None → All Silent acts
+quiet_from_none [] e = All-nil Silent
+quiet_from_none (a ∷ acts) e = go a.deed refl (quiet_from_none acts) e
+  where
+    go : (x : Deed) → a.deed ≡ x → (with_noise acts ≡ None → All Silent acts) → noise_or a.tick x (with_noise acts) ≡ None → All Silent (a ∷ acts)
+    go (Noise until) here later e = cc
+    go (Offer number node frame) here later e = All-cons Silent a acts (ap is_noise here) (later e)
+
+none_from_quiet : (acts : List Act) → All Silent acts → with_noise acts ≡ None
+none_from_quiet [] h = refl
+none_from_quiet (a ∷ acts) h = go a.deed (h 0 a (omega arith)) (none_from_quiet acts (λ k d below. h (suc k) d (omega arith)))
+  where
+    go : (x : Deed) → is_noise x ≡ false → with_noise acts ≡ None → noise_or a.tick x (with_noise acts) ≡ None
+    go (Noise until) quiet later = cc
+    go (Offer number node frame) quiet later = later
+
+-- ---- the search for an ID that stood before, one node on
+
+module _ (nodes : List NodeLine) (i : ℕ) (x : NodeLine) (below : i < length nodes) (here : x ≡ get_or nodes i x) where
+  abbrev earlier : Option NodeLine
+  earlier = find (λ (m : NodeLine). m.id == x.id) (take i nodes)
+
+  one_on : with_repeat_after (take i nodes) (drop i nodes) ≡ repeat_or x earlier (with_repeat_after (take (i + 1) nodes) (drop (i + 1) nodes))
+  one_on =
+      ap (with_repeat_after (take i nodes)) (drop_more nodes i x below ∙ ap (λ n. n ∷ drop (i + 1) nodes) (sym here))
+      ∙ ap (λ before. repeat_or x earlier (with_repeat_after before (drop (i + 1) nodes))) (ap (λ n. take i nodes ++ n ∷ []) here ∙ sym (take_more nodes i x below))
+
+  pub repeat_found : (number : ℕ) → option_map (λ (m : NodeLine). m.no) earlier ≡ Some number → with_repeat_after (take i nodes) (drop i nodes) ≡ unfit 2 x.no number
+  repeat_found number e = one_on ∙ go earlier e
+    where
+      go : (o : Option NodeLine) → option_map (λ (m : NodeLine). m.no) o ≡ Some number → repeat_or x o (with_repeat_after (take (i + 1) nodes) (drop (i + 1) nodes)) ≡ unfit 2 x.no number
+      go (Some m) e = let same : m.no ≡ number = cc in ap (λ k. unfit 2 x.no k) same
+      go None e = cc
+
+  pub repeat_later : option_map (λ (m : NodeLine). m.no) earlier ≡ None → with_repeat_after (take i nodes) (drop i nodes) ≡ with_repeat_after (take (i + 1) nodes) (drop (i + 1) nodes)
+  repeat_later e = one_on ∙ go earlier e
+    where
+      go : (o : Option NodeLine) → option_map (λ (m : NodeLine). m.no) o ≡ None → repeat_or x o (with_repeat_after (take (i + 1) nodes) (drop (i + 1) nodes)) ≡ with_repeat_after (take (i + 1) nodes) (drop (i + 1) nodes)
+      go (Some m) e = cc
+      go None e = refl
+
 -- ---- all premises
 
 else_none : (a b : Option Unfit) → or_else a b ≡ None → (a ≡ None) × (b ≡ None)
@@ -142,16 +193,18 @@ cable_from_none s e = test (ltb (2 * span_of s + s.rise) s.to) refl e
 
 fit_from_none : (s : Script) → unmet s ≡ None → IsFit s
 fit_from_none s e =
-    let one = else_none (without_one_coordinator s.nodes) (or_else (with_repeat s.nodes) (or_else (with_high_id s.count s.nodes) (or_else (with_other_timer s.to s.nodes) (or_else (with_long_bursts s.burst) (with_long_cable s))))) e in
-    let two = else_none (with_repeat s.nodes) (or_else (with_high_id s.count s.nodes) (or_else (with_other_timer s.to s.nodes) (or_else (with_long_bursts s.burst) (with_long_cable s)))) one.1 in
-    let three = else_none (with_high_id s.count s.nodes) (or_else (with_other_timer s.to s.nodes) (or_else (with_long_bursts s.burst) (with_long_cable s))) two.1 in
-    let four = else_none (with_other_timer s.to s.nodes) (or_else (with_long_bursts s.burst) (with_long_cable s)) three.1 in
-    let six = else_none (with_long_bursts s.burst) (with_long_cable s) four.1 in
+    let one = else_none (without_one_coordinator s.nodes) (or_else (with_repeat s.nodes) (or_else (with_high_id s.count s.nodes) (or_else (with_other_timer s.to s.nodes) (or_else (with_noise s.acts) (or_else (with_long_bursts s.burst) (with_long_cable s)))))) e in
+    let two = else_none (with_repeat s.nodes) (or_else (with_high_id s.count s.nodes) (or_else (with_other_timer s.to s.nodes) (or_else (with_noise s.acts) (or_else (with_long_bursts s.burst) (with_long_cable s))))) one.1 in
+    let three = else_none (with_high_id s.count s.nodes) (or_else (with_other_timer s.to s.nodes) (or_else (with_noise s.acts) (or_else (with_long_bursts s.burst) (with_long_cable s)))) two.1 in
+    let four = else_none (with_other_timer s.to s.nodes) (or_else (with_noise s.acts) (or_else (with_long_bursts s.burst) (with_long_cable s))) three.1 in
+    let five = else_none (with_noise s.acts) (or_else (with_long_bursts s.burst) (with_long_cable s)) four.1 in
+    let six = else_none (with_long_bursts s.burst) (with_long_cable s) five.1 in
     record {
       one_coordinator = one_from_none s.nodes one.0;
       distinct_ids = (distinct_from_none [] s.nodes two.0).1;
       low_ids = all_from_none (λ n. n.id < s.count) (λ n. nat_le s.count n.id) s.nodes (λ n h. grind (arith, nat_tests)) (high_none s.count (find (λ (n : NodeLine). nat_le s.count n.id) s.nodes) three.0);
       one_timer = all_from_none (λ n. n.to ≡ s.to) (λ n. not (n.to == s.to)) s.nodes (λ n h. grind (arith, nat_tests)) (other_none s.to (find (λ (n : NodeLine). not (n.to == s.to)) s.nodes) four.0);
+      no_noise = quiet_from_none s.acts five.0;
       short_bursts = short_from_none s.burst six.0;
       short_cable = cable_from_none s six.1;
     }
@@ -162,11 +215,12 @@ none_from_fit s h =
     let two : with_repeat s.nodes ≡ None = none_from_distinct [] s.nodes (λ i j m n at there. cc) h.distinct_ids in
     let three : with_high_id s.count s.nodes ≡ None = ap (high_id s.count) (none_from_all (λ n. n.id < s.count) (λ n. nat_le s.count n.id) s.nodes (λ n low. grind (arith, nat_tests)) h.low_ids) in
     let four : with_other_timer s.to s.nodes ≡ None = ap (other_timer s.to) (none_from_all (λ n. n.to ≡ s.to) (λ n. not (n.to == s.to)) s.nodes (λ n same. grind (arith, nat_tests)) h.one_timer) in
+    let five : with_noise s.acts ≡ None = none_from_quiet s.acts h.no_noise in
     let few : leb s.burst 15 ≡ true = (let small = h.short_bursts in grind (arith, nat_tests)) in
     let six : with_long_bursts s.burst ≡ None = ap (λ b. cond b None (unfit 6 s.burst 15)) few in
     let near : ltb (2 * span_of s + s.rise) s.to ≡ true = (let small = h.short_cable in grind (arith, nat_tests)) in
     let seven : with_long_cable s ≡ None = ap (λ b. cond b None (unfit 7 (2 * span_of s + s.rise) s.to)) near in
-    rw (one, two, three, four, six, seven) refl
+    rw (one, two, three, four, five, six, seven) refl
 
 -- an answer that tells the unmet premise is Ok exactly for a fit script
 pub ok_where_fit : (s : Script) (r : Result (Unit {0}) Unfit) → r ≡ fitness_of (unmet s) → (IsOk r → IsFit s) × (IsFit s → IsOk r)

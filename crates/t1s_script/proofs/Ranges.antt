@@ -1,19 +1,28 @@
 -- The numbers that a line gives lie in their ranges.
-use Rattle.std.proofs.Common.{◌≡◌, ℕ, ◌≤◌, Bool, true, false, cond, leb, List, [], ◌∷◌, Option, Some, None, Result, Ok, Err, refl, subst, arith}
+use Rattle.std.proofs.Common.{◌≡◌, ℕ, ◌<◌, ◌≤◌, Bool, true, false, cond, leb, List, [], ◌∷◌, length, replicate, Option, Some, None, Result, Ok, Err, refl, subst, arith, All}
 use Rattle.std.specs.Prelude.{◌&&◌}
 use Rattle.std.proofs.lemmas.Bool.Decides.{nat_tests}
+use Rattle.std.proofs.lemmas.List.{get_or_default}
+use Rattle.std.proofs.lemmas.List.Elements.{All-replicate}
+use Rattle.hex.specs.Hex.{decode_of, IsBytes}
+use Rattle.hex.specs.declared.error.FromHexError.{FromHexError}
+use Rattle.hex.proofs.HexLemmas.{decode_of-ok}
+use Rattle.t1s_frame.specs.Frame.{IsFrame, frame_of}
+use Rattle.t1s_frame.proofs.Whole.{IsFrame-frame_of}
 use Rattle.t1s_base.specs.Numbers.{number_of}
 use Rattle.t1s_base.specs.Limits.{last_node, most_ticks}
 use Rattle.t1s_script.specs.Lines.{fields_of}
-use Rattle.t1s_script.specs.Settings.{lowest, highest}
-use Rattle.t1s_script.specs.ParsedLine.{ParsedLine, word_of, sole_number, line_with, setting_line, seed_line, node_line, late_line, end_line, line_by_word, line_in, is_skipped, parsed_line}
+use Rattle.t1s_script.specs.Settings.{lowest, highest, setting_range}
+use Rattle.t1s_script.specs.Limits.{last_draw}
+use Rattle.t1s_script.specs.FrameTexts.{frame_within, frame_decoded, hex_frame, sole_octet, frame_filled, fill_frame}
+use Rattle.t1s_script.specs.ParsedLine.{word_of, up_to, is_within, one_within, two_within, three_within, one_number, two_numbers, three_numbers, says, offers, offer_in, fills, fill_in, line_by_word, line_in, is_skipped, parsed_line}
 use Rattle.t1s_script.specs.declared.refusals.ScriptReason.{ScriptReason}
-use Rattle.t1s_script.specs.declared.refusals.ScriptReason.TheVariants.{OutOfRange}
-use Rattle.t1s_script.specs.declared.words.Setting.{Setting}
+use Rattle.t1s_script.specs.declared.refusals.ScriptReason.TheVariants.{OutOfRange, FrameSize}
+use Rattle.t1s_script.specs.declared.words.Range.{Range}
 use Rattle.t1s_script.specs.declared.words.Word.{Word}
-use Rattle.t1s_script.specs.declared.words.Word.TheVariants.{Set as SetWord, Seed as SeedWord, Node as NodeWord, Late as LateWord, End as EndWord}
+use Rattle.t1s_script.specs.declared.words.Word.TheVariants.{Set as SetWord, Seed as SeedWord, Node as NodeWord, Late as LateWord, Draw as DrawWord, Offer as OfferWord, Fill as FillWord, End as EndWord}
 use Rattle.t1s_script.specs.declared.words.ScriptLine.{ScriptLine}
-use Rattle.t1s_script.specs.declared.words.ScriptLine.TheVariants.{Skipped, Set, Seed, Node, Late, End}
+use Rattle.t1s_script.specs.declared.words.ScriptLine.TheVariants.{Skipped, Set, Seed, Node, Late, Draw, Offer, End}
 
 -- the numbers of a line are in their ranges
 abbrev pub InRange : ScriptLine → Type 0
@@ -22,54 +31,160 @@ InRange (Set w n) = (lowest w ≤ n) × (n ≤ highest w)
 InRange (Seed n) = n ≤ 4294967295
 InRange (Node number id place) = (number ≤ last_node) × (id ≤ 255) × (place ≤ 255)
 InRange (Late number start) = (number ≤ last_node) × (start ≤ most_ticks)
+InRange (Draw number draw) = (number ≤ last_node) × (draw ≤ last_draw)
+InRange (Offer tick number frame) = (tick ≤ most_ticks) × (number ≤ last_node) × IsFrame frame
 InRange (End last) = (1 ≤ last) × (last ≤ most_ticks)
 
--- a line that is said where a test passes
-passes : (b : Bool) (made l : ScriptLine) → (b ≡ true → InRange made) → cond b (Ok made) (Err OutOfRange) ≡ Ok l → InRange l
-passes true made l range e = let same : made ≡ l = cc in subst InRange same (range refl)
-passes false made l range e = cc
+-- ---- numbers
 
-set_range : (w : Setting) (o : Option ℕ) (l : ScriptLine) → setting_line w o ≡ Ok l → InRange l
-set_range w (Some n) l e = passes (leb (lowest w) n && leb n (highest w)) (Set w n) l (λ h. grind (arith, nat_tests)) e
-set_range w None l e = cc
+-- a number in its range
+abbrev In : Range → ℕ → Type 0
+In range n = (range.least ≤ n) × (n ≤ range.greatest)
 
-seed_range : (o : Option ℕ) (l : ScriptLine) → seed_line o ≡ Ok l → InRange l
-seed_range (Some n) l e = passes (leb n 4294967295) (Seed n) l (λ h. grind (arith, nat_tests)) e
-seed_range None l e = cc
+within : (range : Range) (n : ℕ) → is_within range n ≡ true → In range n
+within range n h = grind (arith, nat_tests)
 
-node_range : (a b c : Option ℕ) (l : ScriptLine) → node_line a b c ≡ Ok l → InRange l
-node_range (Some a) (Some b) (Some c) l e = passes (leb a last_node && leb b 255 && leb c 255) (Node a b c) l (λ h. grind (arith, nat_tests)) e
-node_range None b c l e = cc
-node_range (Some a) None c l e = cc
-node_range (Some a) (Some b) None l e = cc
+one_in : (range : Range) (o : Option ℕ) (n : ℕ) → one_within range o ≡ Ok n → In range n
+one_in range None n e = cc
+one_in range (Some a) n e = go (is_within range a) refl e
+  where
+    go : (x : Bool) → is_within range a ≡ x → cond x (Ok a) (Err OutOfRange) ≡ Ok n → In range n
+    go true here e = let same : a ≡ n = cc in subst (In range) same (within range a here)
+    go false here e = cc
 
-late_range : (a b : Option ℕ) (l : ScriptLine) → late_line a b ≡ Ok l → InRange l
-late_range (Some a) (Some b) l e = passes (leb a last_node && leb b most_ticks) (Late a b) l (λ h. grind (arith, nat_tests)) e
-late_range None b l e = cc
-late_range (Some a) None l e = cc
+two_in : (first second : Range) (o p : Option ℕ) (ns : ℕ × ℕ) → two_within first second o p ≡ Ok ns → In first ns.0 × In second ns.1
+two_in first second None p ns e = cc
+two_in first second (Some a) None ns e = cc
+two_in first second (Some a) (Some b) ns e = go (is_within first a) (is_within second b) refl refl e
+  where
+    go : (x y : Bool) → is_within first a ≡ x → is_within second b ≡ y → cond (x && y) (Ok (a, b)) (Err OutOfRange) ≡ Ok ns → In first ns.0 × In second ns.1
+    go true true here there e =
+        let same : (a, b) ≡ ns = cc in
+        subst (λ k. In first k.0 × In second k.1) same (within first a here, within second b there)
+    go true false here there e = cc
+    go false y here there e = cc
 
-end_range : (o : Option ℕ) (l : ScriptLine) → end_line o ≡ Ok l → InRange l
-end_range (Some n) l e = passes (leb 1 n && leb n most_ticks) (End n) l (λ h. grind (arith, nat_tests)) e
-end_range None l e = cc
+three_in : (first second third : Range) (o p q : Option ℕ) (ns : ℕ × ℕ × ℕ) → three_within first second third o p q ≡ Ok ns → In first ns.0 × In second ns.1 × In third ns.2
+three_in first second third None p q ns e = cc
+three_in first second third (Some a) None q ns e = cc
+three_in first second third (Some a) (Some b) None ns e = cc
+three_in first second third (Some a) (Some b) (Some c) ns e = go (is_within first a) (is_within second b) (is_within third c) refl refl refl e
+  where
+    go : (x y z : Bool) → is_within first a ≡ x → is_within second b ≡ y → is_within third c ≡ z → cond (x && y && z) (Ok (a, b, c)) (Err OutOfRange) ≡ Ok ns → In first ns.0 × In second ns.1 × In third ns.2
+    go true true true here there last e =
+        let same : (a, b, c) ≡ ns = cc in
+        subst (λ k. In first k.0 × In second k.1 × In third k.2) same (within first a here, within second b there, within third c last)
+    go true true false here there last e = cc
+    go true false z here there last e = cc
+    go false y z here there last e = cc
 
-one_range : (says : Option ℕ → ParsedLine) → ((o : Option ℕ) (l : ScriptLine) → says o ≡ Ok l → InRange l) → (r : Result (Option ℕ) ScriptReason) (l : ScriptLine) → line_with says r ≡ Ok l → InRange l
-one_range says range (Ok number) l e = range number l e
-one_range says range (Err reason) l e = cc
+-- the fields of a line, as many as its numbers
+one_of : (range : Range) (fields : List (List ℕ)) (n : ℕ) → one_number range fields ≡ Ok n → In range n
+one_of range [] n e = cc
+one_of range (a ∷ []) n e = one_in range (number_of a) n e
+one_of range (a ∷ b ∷ fs) n e = cc
+
+two_of : (first second : Range) (fields : List (List ℕ)) (ns : ℕ × ℕ) → two_numbers first second fields ≡ Ok ns → In first ns.0 × In second ns.1
+two_of first second [] ns e = cc
+two_of first second (a ∷ []) ns e = cc
+two_of first second (a ∷ b ∷ []) ns e = two_in first second (number_of a) (number_of b) ns e
+two_of first second (a ∷ b ∷ c ∷ fs) ns e = cc
+
+three_of : (first second third : Range) (fields : List (List ℕ)) (ns : ℕ × ℕ × ℕ) → three_numbers first second third fields ≡ Ok ns → In first ns.0 × In second ns.1 × In third ns.2
+three_of first second third [] ns e = cc
+three_of first second third (a ∷ []) ns e = cc
+three_of first second third (a ∷ b ∷ []) ns e = cc
+three_of first second third (a ∷ b ∷ c ∷ []) ns e = three_in first second third (number_of a) (number_of b) (number_of c) ns e
+three_of first second third (a ∷ b ∷ c ∷ d ∷ fs) ns e = cc
+
+-- what is said with numbers that are in range
+says_range : {X : Type 0} (line : X → ScriptLine) (r : Result X ScriptReason) (l : ScriptLine) → ((x : X) → r ≡ Ok x → InRange (line x)) → says line r ≡ Ok l → InRange l
+says_range line (Ok x) l range e = let same : line x ≡ l = cc in subst InRange same (range x refl)
+says_range line (Err reason) l range e = cc
+
+-- ---- frames
+
+octets_all : (octets : List ℕ) → IsBytes octets → All (λ x. x < 256) octets
+octets_all octets h k d below = subst (λ x. x < 256) (get_or_default octets k 0 d below) (h k)
+
+frame_range : (octets f : List ℕ) → All (λ x. x < 256) octets → frame_within octets ≡ Ok f → IsFrame f
+frame_range octets f h e = go (leb 14 (length octets)) (leb (length octets) 1518) refl e
+  where
+    go : (a b : Bool) → leb (length octets) 1518 ≡ b → cond (a && b) (Ok (frame_of octets)) (Err FrameSize) ≡ Ok f → IsFrame f
+    go true true fits e = let same : frame_of octets ≡ f = cc in subst IsFrame same (IsFrame-frame_of octets (let test = fits in grind (arith, nat_tests)) h)
+    go true false fits e = cc
+    go false b fits e = cc
+
+hex_range : (text f : List ℕ) → hex_frame text ≡ Ok f → IsFrame f
+hex_range text f e = go (decode_of text) refl e
+  where
+    go : (r : Result (List ℕ) FromHexError) → decode_of text ≡ r → frame_decoded r ≡ Ok f → IsFrame f
+    go (Ok octets) read e = frame_range octets f (octets_all octets (decode_of-ok text octets read).3) e
+    go (Err error) read e = cc
+
+fill_range : (count : ℕ) (text f : List ℕ) → fill_frame count text ≡ Ok f → IsFrame f
+fill_range count text f e = go (decode_of text) refl e
+  where
+    go : (r : Result (List ℕ) FromHexError) → decode_of text ≡ r → frame_filled count (sole_octet r) ≡ Ok f → IsFrame f
+    go (Ok []) read e = cc
+    go (Ok (x ∷ [])) read e = frame_range (replicate count x) f (All-replicate (λ y. y < 256) count x ((decode_of-ok text (x ∷ []) read).3 0)) e
+    go (Ok (x ∷ y ∷ ys)) read e = cc
+    go (Err error) read e = cc
+
+-- ---- lines
+
+offers_range : (target : Result (ℕ × ℕ) ScriptReason) (frame : Result (List ℕ) ScriptReason) (l : ScriptLine)
+    → ((t : ℕ × ℕ) → target ≡ Ok t → In (up_to most_ticks) t.0 × In (up_to last_node) t.1) → ((f : List ℕ) → frame ≡ Ok f → IsFrame f) → offers target frame ≡ Ok l → InRange l
+offers_range (Ok t) frame l near whole e =
+    let range = near t refl in
+    says_range (λ octets. Offer t.0 t.1 octets) frame l (λ f made. (range.0.1, range.1.1, whole f made)) e
+offers_range (Err reason) frame l near whole e = cc
+
+fills_range : (numbers : Result (ℕ × ℕ × ℕ) ScriptReason) (text : List ℕ) (l : ScriptLine)
+    → ((ns : ℕ × ℕ × ℕ) → numbers ≡ Ok ns → In (up_to most_ticks) ns.0 × In (up_to last_node) ns.1 × In (up_to 9999999999) ns.2) → fills numbers text ≡ Ok l → InRange l
+fills_range (Ok ns) text l near e =
+    let range = near ns refl in
+    let here : In (up_to most_ticks) ns.0 = range.0 in
+    let there : In (up_to last_node) ns.1 = range.1 in
+    says_range (λ octets. Offer ns.0 ns.1 octets) (fill_frame ns.2 text) l (λ f made. (here.1, there.1, fill_range ns.2 text f made)) e
+fills_range (Err reason) text l near e = cc
+
+offer_range : (fields : List (List ℕ)) (l : ScriptLine) → offer_in fields ≡ Ok l → InRange l
+offer_range [] l e = cc
+offer_range (f ∷ []) l e = cc
+offer_range (f ∷ g ∷ []) l e = cc
+offer_range (f ∷ g ∷ h ∷ []) l e =
+    offers_range (two_within (up_to most_ticks) (up_to last_node) (number_of f) (number_of g)) (hex_frame h) l
+    (λ t made. two_in (up_to most_ticks) (up_to last_node) (number_of f) (number_of g) t made) (hex_range h) e
+offer_range (f ∷ g ∷ h ∷ i ∷ fs) l e = cc
+
+fill_line_range : (fields : List (List ℕ)) (l : ScriptLine) → fill_in fields ≡ Ok l → InRange l
+fill_line_range [] l e = cc
+fill_line_range (f ∷ []) l e = cc
+fill_line_range (f ∷ g ∷ []) l e = cc
+fill_line_range (f ∷ g ∷ h ∷ []) l e = cc
+fill_line_range (f ∷ g ∷ h ∷ i ∷ []) l e =
+    fills_range (three_within (up_to most_ticks) (up_to last_node) (up_to 9999999999) (number_of f) (number_of g) (number_of h)) i l
+    (λ ns made. three_in (up_to most_ticks) (up_to last_node) (up_to 9999999999) (number_of f) (number_of g) (number_of h) ns made) e
+fill_line_range (f ∷ g ∷ h ∷ i ∷ j ∷ fs) l e = cc
 
 line_by_word_range : (w : Option Word) (fields : List (List ℕ)) (l : ScriptLine) → line_by_word w fields ≡ Ok l → InRange l
 line_by_word_range None fields l e = cc
-line_by_word_range (Some (SetWord w)) fields l e = one_range (setting_line w) (set_range w) (sole_number fields) l e
-line_by_word_range (Some SeedWord) fields l e = one_range seed_line seed_range (sole_number fields) l e
-line_by_word_range (Some NodeWord) [] l e = cc
-line_by_word_range (Some NodeWord) (f ∷ []) l e = cc
-line_by_word_range (Some NodeWord) (f ∷ g ∷ []) l e = cc
-line_by_word_range (Some NodeWord) (f ∷ g ∷ h ∷ []) l e = node_range (number_of f) (number_of g) (number_of h) l e
-line_by_word_range (Some NodeWord) (f ∷ g ∷ h ∷ i ∷ fs) l e = cc
-line_by_word_range (Some LateWord) [] l e = cc
-line_by_word_range (Some LateWord) (f ∷ []) l e = cc
-line_by_word_range (Some LateWord) (f ∷ g ∷ []) l e = late_range (number_of f) (number_of g) l e
-line_by_word_range (Some LateWord) (f ∷ g ∷ h ∷ fs) l e = cc
-line_by_word_range (Some EndWord) fields l e = one_range end_line end_range (sole_number fields) l e
+line_by_word_range (Some (SetWord w)) fields l e = says_range (λ n. Set w n) (one_number (setting_range w) fields) l (one_of (setting_range w) fields) e
+line_by_word_range (Some SeedWord) fields l e = says_range (λ n. Seed n) (one_number (up_to 4294967295) fields) l (λ n made. (one_of (up_to 4294967295) fields n made).1) e
+line_by_word_range (Some NodeWord) fields l e =
+    says_range (λ n. Node n.0 n.1 n.2) (three_numbers (up_to last_node) (up_to 255) (up_to 255) fields) l
+    (λ ns made. (let r = three_of (up_to last_node) (up_to 255) (up_to 255) fields ns made in (r.0.1, r.1.1, r.2.1))) e
+line_by_word_range (Some LateWord) fields l e =
+    says_range (λ n. Late n.0 n.1) (two_numbers (up_to last_node) (up_to most_ticks) fields) l
+    (λ ns made. (let r = two_of (up_to last_node) (up_to most_ticks) fields ns made in (r.0.1, r.1.1))) e
+line_by_word_range (Some DrawWord) fields l e =
+    says_range (λ n. Draw n.0 n.1) (two_numbers (up_to last_node) (up_to last_draw) fields) l
+    (λ ns made. (let r = two_of (up_to last_node) (up_to last_draw) fields ns made in (r.0.1, r.1.1))) e
+line_by_word_range (Some OfferWord) fields l e = offer_range fields l e
+line_by_word_range (Some FillWord) fields l e = fill_line_range fields l e
+line_by_word_range (Some EndWord) fields l e =
+    says_range (λ n. End n) (one_number (record { least = 1; greatest = most_ticks }) fields) l (one_of (record { least = 1; greatest = most_ticks }) fields) e
 
 line_in_range : (fields : List (List ℕ)) (l : ScriptLine) → line_in fields ≡ Ok l → InRange l
 line_in_range [] l e = cc

@@ -1,6 +1,6 @@
 -- Octets of the thin form are read, and all that they don't name has its default.
-use Rattle.std.proofs.Common.{◌≡◌, ℕ, zero, suc, ◌+◌, ◌<◌, ◌≤◌, Bool, true, false, cond, leb, ltb, List, [], ◌∷◌, length, get_or, map, set, Option, Some, None, Result, Ok, Err, refl, sym, ◌∙◌, ap, subst, arith, unwrap_or, All}
-use Rattle.std.specs.Prelude.{◌&&◌, is_some, codes}
+use Rattle.std.proofs.Common.{◌≡◌, ℕ, zero, suc, ◌+◌, ◌<◌, ◌≤◌, true, false, cond, leb, ltb, List, [], ◌∷◌, length, get_or, map, set, Option, Some, None, Result, Ok, Err, refl, sym, ◌∙◌, ap, subst, arith, unwrap_or, All}
+use Rattle.std.specs.Prelude.{is_some, codes}
 use Rattle.std.specs.Str.{bytes_eq}
 use Rattle.std.specs.Cmp.{first_so, second_so}
 use Rattle.std.specs.List.{list_any}
@@ -11,22 +11,27 @@ use Rattle.t1s_base.specs.Limits.{most_nodes}
 use Rattle.t1s_script.specs.Lines.{lines_of}
 use Rattle.t1s_script.specs.ParsedLine.{ParsedLine, parsed_line}
 use Rattle.t1s_script.specs.Draft.{value_in, draft_start, with_slot, unskipped_after, draft_after, node_of, nodes_from, script_with}
-use Rattle.t1s_script.specs.Reading.{script_after_first, script_in, refused_at}
+use Rattle.t1s_script.specs.Reading.{draw_list, script_after_first, script_in, refused_at}
 use Rattle.t1s_script.specs.ThinForm.{are_thin_nodes, are_thin_after_count, are_thin, have_thin_form, IsThinNode, IsThinScript, ThinScriptsHaveDefaults}
 use Rattle.t1s_script.specs.declared.draft.Draft.{Draft}
 use Rattle.t1s_script.specs.declared.draft.Slot.{Slot}
-use Rattle.t1s_script.specs.declared.refusals.ScriptReason.TheVariants.{TooLong, FirstLine, Twice, NoNode}
+use Rattle.t1s_script.specs.declared.refusals.ScriptReason.TheVariants.{TooLong, FirstLine, Twice, Order, NoNode}
 use Rattle.t1s_script.specs.declared.refusals.ScriptRefusal.{ScriptRefusal}
 use Rattle.t1s_script.specs.declared.script.Script.{Script}
 use Rattle.t1s_script.specs.declared.words.Setting.TheVariants.{Count, To, Rise, Fall, Burst, Room}
 use Rattle.t1s_script.specs.declared.words.ScriptLine.{ScriptLine}
-use Rattle.t1s_script.specs.declared.words.ScriptLine.TheVariants.{Skipped, Set, Seed, Node, Late, End}
+use Rattle.t1s_script.specs.declared.words.ScriptLine.TheVariants.{Skipped, Set, Seed, Node, Late, Draw, Offer, End}
 use Rattle.t1s_script.proofs.Ranges.{InRange, parsed_line_range}
 use Rattle.t1s_script.proofs.Drafts.{reading_from, by_drafts, any_set, none_free}
 
 -- what reading gives is a thin script
 abbrev Reads : Result Script ScriptRefusal → Type 0
 Reads r = (s : Script) × (r ≡ Ok s) × IsThinScript s
+
+-- only the `node` line of that number stood
+record IsPlain (slot : Slot) : Type 0 where
+  pub start : slot.start ≡ None
+  pub draws : slot.draws ≡ []
 
 -- nothing but a count and nodes stood, and the slots from that number on are free
 record IsThinDraft (least : ℕ) (d : Draft) : Type 0 where
@@ -39,16 +44,18 @@ record IsThinDraft (least : ℕ) (d : Draft) : Type 0 where
   pub end : d.end ≡ None
   pub size : length d.slots ≡ most_nodes
   pub free : (i : ℕ) → least ≤ i → get_or d.slots i None ≡ None
-  pub starts : (i : ℕ) (slot : Slot) → get_or d.slots i None ≡ Some slot → slot.start ≡ None
+  pub plain : (i : ℕ) (slot : Slot) → get_or d.slots i None ≡ Some slot → IsPlain slot
+  pub acts : d.acts ≡ []
+  pub latest : d.latest ≡ 0
 
 -- ---- the nodes
 
-nodes_thin : (to number : ℕ) (slots : List (Option Slot)) → to ≡ 32 → ((i : ℕ) (slot : Slot) → get_or slots i None ≡ Some slot → slot.start ≡ None) → All IsThinNode (nodes_from to number slots)
+nodes_thin : (to number : ℕ) (slots : List (Option Slot)) → to ≡ 32 → ((i : ℕ) (slot : Slot) → get_or slots i None ≡ Some slot → IsPlain slot) → All IsThinNode (nodes_from to number slots)
 nodes_thin to number [] timer h = All-nil IsThinNode
 nodes_thin to number (None ∷ slots) timer h = nodes_thin to (number + 1) slots timer (λ i slot e. h (suc i) slot e)
 nodes_thin to number (Some slot ∷ slots) timer h =
     All-cons IsThinNode (node_of to number slot) (nodes_from to (number + 1) slots)
-    (record { to = timer; start = ap (λ o. unwrap_or o 0) (h 0 slot refl) })
+    (record { to = timer; start = ap (λ o. unwrap_or o 0) (h 0 slot refl).start; draws = ap draw_list (h 0 slot refl).draws })
     (nodes_thin to (number + 1) slots timer (λ i s e. h (suc i) s e))
 
 script_thin : (least : ℕ) (d : Draft) (last : ℕ) → IsThinDraft least d → IsThinScript (script_with (record d { end = Some last }) last)
@@ -61,7 +68,8 @@ script_thin least d last h =
       burst = ap (λ o. unwrap_or o 0) h.burst;
       room = ap (λ o. unwrap_or o 8) h.room;
       seed = ap (λ o. unwrap_or o 1) h.seed;
-      nodes = nodes_thin (value_in d.settings To) 0 d.slots timer h.starts;
+      nodes = nodes_thin (value_in d.settings To) 0 d.slots timer h.plain;
+      acts = h.acts;
     }
 
 -- ---- one more node
@@ -73,15 +81,15 @@ free_set (o ∷ os) zero new (suc i) above e = e
 free_set (o ∷ os) (suc k) new zero above e = absurd (omega arith)
 free_set (o ∷ os) (suc k) new (suc i) above e = free_set os k new i (omega arith) e
 
-starts_set : (slots : List (Option Slot)) (k : ℕ) (new : Slot) → new.start ≡ None → ((i : ℕ) (slot : Slot) → get_or slots i None ≡ Some slot → slot.start ≡ None) → (i : ℕ) (slot : Slot) → get_or (set slots k (Some new)) i None ≡ Some slot → slot.start ≡ None
-starts_set [] k new none h i slot e = h i slot e
-starts_set (o ∷ os) zero new none h zero slot e = let same : new ≡ slot = cc in subst (λ (s : Slot). s.start ≡ None) same none
-starts_set (o ∷ os) zero new none h (suc i) slot e = h (suc i) slot e
-starts_set (o ∷ os) (suc k) new none h zero slot e = h zero slot e
-starts_set (o ∷ os) (suc k) new none h (suc i) slot e = starts_set os k new none (λ j s f. h (suc j) s f) i slot e
+plain_set : (slots : List (Option Slot)) (k : ℕ) (new : Slot) → IsPlain new → ((i : ℕ) (slot : Slot) → get_or slots i None ≡ Some slot → IsPlain slot) → (i : ℕ) (slot : Slot) → get_or (set slots k (Some new)) i None ≡ Some slot → IsPlain slot
+plain_set [] k new none h i slot e = h i slot e
+plain_set (o ∷ os) zero new none h zero slot e = let same : new ≡ slot = cc in subst IsPlain same none
+plain_set (o ∷ os) zero new none h (suc i) slot e = h (suc i) slot e
+plain_set (o ∷ os) (suc k) new none h zero slot e = h zero slot e
+plain_set (o ∷ os) (suc k) new none h (suc i) slot e = plain_set os k new none (λ j s f. h (suc j) s f) i slot e
 
 abbrev slot_of : ℕ → ℕ → Slot
-slot_of id place = record { id = id; place = place; start = None }
+slot_of id place = record { id = id; place = place; start = None; draws = [] }
 
 node_taken : (least number id place : ℕ) (d : Draft) → IsThinDraft least d → least ≤ number → draft_after d (Ok (Node number id place)) ≡ Ok (with_slot d number (slot_of id place))
 node_taken least number id place d h above =
@@ -99,15 +107,20 @@ node_thin least number id place d h above = record {
   end = h.end;
   size = length-set d.slots number (Some (slot_of id place)) ∙ h.size;
   free = λ i high. free_set d.slots number (slot_of id place) i (omega arith) (h.free i (omega arith));
-  starts = starts_set d.slots number (slot_of id place) refl h.starts;
+  plain = plain_set d.slots number (slot_of id place) (record { start = refl; draws = refl }) h.plain;
+  acts = h.acts;
+  latest = h.latest;
 }
 
 -- ---- the lines
 
-ended : (number least : ℕ) (d : Draft) (last : ℕ) → IsThinDraft least d → list_any is_some d.slots ≡ true → Reads (reading_from number (Ok d) (Ok (End last) ∷ []))
-ended number least d last h any =
+ended : (number least : ℕ) (d : Draft) (last : ℕ) → 1 ≤ last → IsThinDraft least d → list_any is_some d.slots ≡ true → Reads (reading_from number (Ok d) (Ok (End last) ∷ []))
+ended number least d last some h any =
+    let above : leb last d.latest ≡ false = (let none = h.latest in grind (arith, nat_tests)) in
     let taken : draft_after d (Ok (End last)) ≡ Ok (record d { end = Some last }) =
-    ap (λ o. unskipped_after d o (Ok (End last))) h.end ∙ ap (λ b. cond b (Ok (record d { end = Some last })) (Err NoNode)) any in
+    ap (λ o. unskipped_after d o (Ok (End last))) h.end
+    ∙ ap (λ b. cond b (Err Order) (cond (list_any is_some d.slots) (Ok (record d { end = Some last })) (Err NoNode))) above
+    ∙ ap (λ b. cond b (Ok (record d { end = Some last })) (Err NoNode)) any in
     (script_with (record d { end = Some last }) last, ap (λ r. reading_from (number + 1) r []) taken, script_thin least d last h)
 
 -- a `node` line, where the lines after it are read
@@ -123,7 +136,9 @@ one_read number least d (Ok Skipped) rest range h any next thin = cc
 one_read number least d (Ok (Set w n)) rest range h any next thin = cc
 one_read number least d (Ok (Seed n)) rest range h any next thin = cc
 one_read number least d (Ok (Late n start)) rest range h any next thin = cc
-one_read number least d (Ok (End last)) [] range h any next thin = ended number least d last h any
+one_read number least d (Ok (Draw n draw)) rest range h any next thin = cc
+one_read number least d (Ok (Offer tick n frame)) rest range h any next thin = cc
+one_read number least d (Ok (End last)) [] range h any next thin = ended number least d last (range (End last) refl).0 h any
 one_read number least d (Ok (End last)) (y ∷ ys) range h any next thin = cc
 one_read number least d (Ok (Node n id place)) rest range h any next thin =
     let first_holds = first_so (leb least n) (are_thin_nodes (n + 1) rest) thin in
@@ -149,6 +164,8 @@ after_count_read number d (line ∷ lines) h thin = go (parsed_line line) (parse
     go (Ok (Set w n)) range thin = cc
     go (Ok (Seed n)) range thin = cc
     go (Ok (Late n start)) range thin = cc
+    go (Ok (Draw n draw)) range thin = cc
+    go (Ok (Offer tick n frame)) range thin = cc
     go (Ok (End last)) range thin = cc
     go (Ok (Node n id place)) range thin =
         let few = (range (Node n id place) refl).0 in
@@ -170,7 +187,9 @@ counted_thin n = record {
   end = refl;
   size = refl;
   free = λ i high. none_free most_nodes i;
-  starts = λ i slot e. absurd (cc (none_free most_nodes i));
+  plain = λ i slot e. absurd (cc (none_free most_nodes i));
+  acts = refl;
+  latest = refl;
 }
 
 lines_read : (lines : List (List ℕ)) → are_thin (map parsed_line lines) ≡ true → Reads (reading_from 1 (Ok draft_start) (map parsed_line lines))
@@ -183,6 +202,8 @@ lines_read (line ∷ lines) thin = go (parsed_line line) thin
     go (Ok (Seed n)) thin = cc
     go (Ok (Node n id place)) thin = cc
     go (Ok (Late n start)) thin = cc
+    go (Ok (Draw n draw)) thin = cc
+    go (Ok (Offer tick n frame)) thin = cc
     go (Ok (End last)) thin = cc
     go (Ok (Set To n)) thin = cc
     go (Ok (Set Rise n)) thin = cc

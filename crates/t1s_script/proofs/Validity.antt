@@ -1,31 +1,42 @@
 -- The script that reading gives is valid.
-use Rattle.std.proofs.Common.{◌≡◌, ℕ, zero, suc, ◌+◌, ◌≤◌, Bool, true, false, cond, ltb, List, [], ◌∷◌, length, get_or, map, set, Option, Some, None, Result, Ok, Err, refl, ◌∙◌, subst, arith, unwrap_or, replicate}
-use Rattle.std.specs.Prelude.{is_some, codes, IfOk}
+use Rattle.std.proofs.Common.{◌≡◌, ℕ, zero, suc, ◌+◌, ◌<◌, ◌≤◌, Bool, true, false, cond, leb, ltb, List, [], ◌∷◌, ◌++◌, length, length-append, get_or, map, set, Option, Some, None, Result, Ok, Err, refl, sym, ap, ◌∙◌, subst, arith, unwrap_or, replicate, All, ◌-◌}
+use Rattle.std.specs.Prelude.{is_some, not, codes, IfOk, filter_map}
 use Rattle.std.specs.Str.{bytes_eq}
-use Rattle.std.specs.List.{list_any}
+use Rattle.std.specs.List.{list_any, range_with_len}
+use Rattle.std.specs.List.Sorted.{IsNonDecreasing, IsStrictlyIncreasing}
 use Rattle.std.proofs.Math.ListN.{length-set}
+use Rattle.std.proofs.lemmas.Bool.Decides.{nat_tests}
+use Rattle.std.proofs.lemmas.List.{length-map, map-append}
+use Rattle.std.proofs.lemmas.List.Elements.{All-append, All-cons, All-nil, filter_map-append}
+use Rattle.std.proofs.lemmas.List.FromFn.{length-range_with_len, get_or-range_with_len}
+use Rattle.std.proofs.lemmas.List.Sorted.{IsNonDecreasingBy-push}
+use Rattle.t1s_frame.specs.Frame.{IsFrame}
 use Rattle.t1s_base.specs.Limits.{most_nodes, last_node, most_ticks}
 use Rattle.t1s_script.specs.Lines.{lines_of}
 use Rattle.t1s_script.specs.Settings.{lowest, highest, default_of}
+use Rattle.t1s_script.specs.Limits.{most_acts, most_draws, last_draw}
 use Rattle.t1s_script.specs.ParsedLine.{ParsedLine, parsed_line}
-use Rattle.t1s_script.specs.Draft.{given, with_given, value_in, draft_start, slot_at, with_slot, set_after, seed_after, node_after, late_in_slot, late_after, end_after, line_after, unskipped_after, draft_after, script_with, script_at}
-use Rattle.t1s_script.specs.Script.{IsScript}
-use Rattle.t1s_script.specs.Reading.{script_after_first, script_in, script_of, refused_at, IsAnswer, ReadScriptsAreValid}
+use Rattle.t1s_script.specs.Draft.{given, with_given, value_in, draft_start, slot_at, with_slot, set_after, seed_after, node_after, late_in_slot, late_after, draw_in_slot, draw_after, with_offer, offer_after, end_after, line_after, unskipped_after, draft_after, nodes_from, script_with, script_at}
+use Rattle.t1s_script.specs.Script.{IsAct, IsDeed, IsScript, numbers_of, offer_number}
+use Rattle.t1s_script.specs.Reading.{offer_act, script_after_first, script_in, script_of, refused_at, IsAnswer, ReadScriptsAreValid}
 use Rattle.t1s_script.specs.declared.refusals.ScriptFault.{ScriptFault}
 use Rattle.t1s_script.specs.declared.refusals.ScriptFault.TheVariants.{Refused, Memory}
 use Rattle.t1s_script.specs.declared.draft.Draft.{Draft}
 use Rattle.t1s_script.specs.declared.draft.Settings.{Settings}
 use Rattle.t1s_script.specs.declared.draft.Slot.{Slot}
 use Rattle.t1s_script.specs.declared.refusals.ScriptReason.{ScriptReason}
-use Rattle.t1s_script.specs.declared.refusals.ScriptReason.TheVariants.{TooLong, FirstLine, Twice, NoNode}
+use Rattle.t1s_script.specs.declared.refusals.ScriptReason.TheVariants.{TooLong, FirstLine, Twice, UnknownNode, Order, TooMany, NoNode}
+use Rattle.t1s_script.specs.declared.script.Act.{Act}
+use Rattle.t1s_script.specs.declared.script.Deed.{Deed}
+use Rattle.t1s_script.specs.declared.script.Deed.TheVariants.{Offer as OfferDeed, Noise as NoiseDeed}
 use Rattle.t1s_script.specs.declared.script.Script.{Script}
 use Rattle.t1s_script.specs.declared.words.Setting.{Setting}
 use Rattle.t1s_script.specs.declared.words.Setting.TheVariants.{Count, To, Rise, Fall, Burst, Room}
 use Rattle.t1s_script.specs.declared.words.ScriptLine.{ScriptLine}
-use Rattle.t1s_script.specs.declared.words.ScriptLine.TheVariants.{Skipped, Set, Seed, Node, Late, End}
+use Rattle.t1s_script.specs.declared.words.ScriptLine.TheVariants.{Skipped, Set, Seed, Node, Late, Draw, Offer, End}
 use Rattle.t1s_script.proofs.Ranges.{InRange, parsed_line_range}
 use Rattle.t1s_script.proofs.Drafts.{reading_from, by_drafts}
-use Rattle.t1s_script.proofs.Nodes.{IsSlot, AreSlots, nodes_range, length-nodes_from, some_node, nodes_increase}
+use Rattle.t1s_script.proofs.Nodes.{IsSlot, AreSlots, nodes_range, length-nodes_from, some_node, nodes_increase, number_stands}
 
 -- the number of a setting is in its range, where one is given
 abbrev pub InSetting : Setting → Option ℕ → Type 0
@@ -39,13 +50,99 @@ pub record AreSettings (s : Settings) : Type 0 where
   pub burst : InSetting Burst s.burst
   pub room : InSetting Room s.room
 
--- all that a draft holds is in range, and `end` came after a node
+-- ---- acts
+
+-- an offer of a frame to a node that stood
+abbrev pub IsOffered : List (Option Slot) → ℕ → Deed → Type 0
+IsOffered slots count (OfferDeed number node frame) = (1 ≤ number) × (number ≤ count) × (is_some (get_or slots node None) ≡ true) × IsFrame frame
+IsOffered slots count (NoiseDeed until) = ⊥
+
+-- an act among so many, of which none has a later tick than that
+pub record IsTimed (slots : List (Option Slot)) (count latest : ℕ) (a : Act) : Type 0 where
+  pub early : a.tick ≤ latest
+  pub deed : IsOffered slots count a.deed
+
+abbrev ticks : List Act → List ℕ
+ticks acts = map (λ (a : Act). a.tick) acts
+
+-- acts in the order of their ticks, the offers of them numbered from 1
+pub record AreActs (slots : List (Option Slot)) (held : List Act) (latest : ℕ) : Type 0 where
+  pub few : length held ≤ most_acts
+  pub in_order : IsNonDecreasing (ticks held)
+  pub numbered : filter_map offer_number held ≡ range_with_len 1 (length held)
+  pub each : All (IsTimed slots (length held) latest) held
+
+no_acts : (slots : List (Option Slot)) (latest : ℕ) → AreActs slots [] latest
+no_acts slots latest = record {
+  few = omega arith;
+  in_order = λ i j d low below. absurd (omega arith);
+  numbered = refl;
+  each = All-nil (IsTimed slots 0 latest);
+}
+
+-- as many nodes or more, as many acts or more, and ticks as late or later
+all_timed : (slots more : List (Option Slot)) (count most latest last : ℕ) (held : List Act) → ((i : ℕ) → is_some (get_or slots i None) ≡ true → is_some (get_or more i None) ≡ true)
+    → count ≤ most → latest ≤ last → All (IsTimed slots count latest) held → All (IsTimed more most last) held
+all_timed slots more count most latest last held stand few low h k d below = timed (get_or held k d) (h k d below)
+  where
+    offered : (x : Deed) → IsOffered slots count x → IsOffered more most x
+    offered (OfferDeed number node frame) o = (o.0, omega (arith, o.1), stand node o.2, o.3)
+    offered (NoiseDeed until) o = absurd o
+
+    timed : (a : Act) → IsTimed slots count latest a → IsTimed more most last a
+    timed a t = record { early = omega (arith, t.early); deed = offered a.deed t.deed }
+
+range_more : (a n : ℕ) → range_with_len a n ++ (a + n) ∷ [] ≡ range_with_len a (suc n)
+range_more a zero = let same : a + 0 ≡ a = omega arith in ap (λ k. k ∷ []) same
+range_more a (suc n) = let next : a + suc n ≡ a + 1 + n = omega arith in ap (λ k. a ∷ (range_with_len (a + 1) n ++ k ∷ [])) next ∙ ap (λ ks. a ∷ ks) (range_more (a + 1) n)
+
+range_increases : (a n : ℕ) → IsStrictlyIncreasing (range_with_len a n)
+range_increases a n k below =
+    let size = length-range_with_len a n in
+    let here = get_or-range_with_len a n k 0 (omega arith) in
+    let next = get_or-range_with_len a n (k + 1) 0 (omega arith) in
+    omega arith
+
+-- the tick of the last act is at most that of all
+last_early : (slots : List (Option Slot)) (count latest : ℕ) (held : List Act) → All (IsTimed slots count latest) held → (d : ℕ) → 0 < length (ticks held) → get_or (ticks held) (length (ticks held) - 1) d ≤ latest
+last_early slots count latest held h d some =
+    let size = length-map held (λ (a : Act). a.tick) in
+    go held (length (ticks held) - 1) (λ k e below. (h k e below).early) (omega arith)
+  where
+    go : (xs : List Act) (i : ℕ) → ((k : ℕ) (e : Act) → k < length xs → (get_or xs k e).tick ≤ latest) → i < length xs → get_or (ticks xs) i d ≤ latest
+    go [] i low below = absurd (omega arith)
+    go (x ∷ xs) zero low below = low 0 x below
+    go (x ∷ xs) (suc i) low below = go xs i (λ k e under. low (suc k) e (omega arith)) (omega arith)
+
+one_more_act : (slots : List (Option Slot)) (held : List Act) (latest tick node : ℕ) (frame : List ℕ) → AreActs slots held latest
+    → latest ≤ tick → length held < most_acts → is_some (get_or slots node None) ≡ true → IsFrame frame
+    → AreActs slots (held ++ offer_act (1 + length held, (tick, node, frame)) ∷ []) tick
+one_more_act slots held latest tick node frame h order few known whole =
+    let act : Act = offer_act (1 + length held, (tick, node, frame)) in
+    let size : length (held ++ act ∷ []) ≡ suc (length held) = omega (arith, length-append held (act ∷ [])) in
+    let earlier = all_timed slots slots (length held) (length (held ++ act ∷ [])) latest tick held (λ i taken. taken) (omega arith) order h.each in
+    let here : IsTimed slots (length (held ++ act ∷ [])) tick act = record { early = omega arith; deed = (omega arith, omega arith, known, whole) } in
+    let first : ℕ = 1 + length held in
+    record {
+      few = omega arith;
+      in_order =
+          subst IsNonDecreasing (sym (map-append (λ (a : Act). a.tick) held (act ∷ [])))
+          (IsNonDecreasingBy-push (λ x. x) (ticks held) tick h.in_order (λ d some. omega (arith, last_early slots (length held) latest held h.each d some)));
+      numbered =
+          filter_map-append offer_number held (act ∷ []) ∙ ap (λ ns. ns ++ first ∷ []) h.numbered ∙ range_more 1 (length held) ∙ ap (range_with_len 1) (sym size);
+      each = All-append (IsTimed slots (length (held ++ act ∷ [])) tick) held (act ∷ []) earlier (All-cons (IsTimed slots (length (held ++ act ∷ [])) tick) act [] here (All-nil (IsTimed slots (length (held ++ act ∷ [])) tick)));
+    }
+
+-- ---- drafts
+
+-- all that a draft holds is in range, and `end` came after a node and above all timed ticks
 pub record IsDraft (d : Draft) : Type 0 where
   pub settings : AreSettings d.settings
   pub seed : (n : ℕ) → d.seed ≡ Some n → n ≤ 4294967295
   pub slots : AreSlots d.slots
   pub size : length d.slots ≡ most_nodes
-  pub end : (last : ℕ) → d.end ≡ Some last → (1 ≤ last) × (last ≤ most_ticks) × (list_any is_some d.slots ≡ true)
+  pub acts : AreActs d.slots d.acts d.latest
+  pub end : (last : ℕ) → d.end ≡ Some last → (1 ≤ last) × (last ≤ most_ticks) × (list_any is_some d.slots ≡ true) × (d.latest < last)
 
 -- ---- the start
 
@@ -63,6 +160,7 @@ start_valid = record {
   seed = λ n e. cc;
   slots = record { each = free most_nodes };
   size = refl;
+  acts = no_acts draft_start.slots 0;
   end = λ last e. cc;
 }
 
@@ -94,7 +192,7 @@ module _ (d : Draft) (h : IsDraft d) (open_end : d.end ≡ None) where
       go true is = cc
       go false is =
           let same : record d { settings = with_given d.settings w m } ≡ e = cc in
-          subst IsDraft same (record { settings = settings_after d.settings w m h.settings range; seed = h.seed; slots = h.slots; size = h.size; end = h.end })
+          subst IsDraft same (record { settings = settings_after d.settings w m h.settings range; seed = h.seed; slots = h.slots; size = h.size; acts = h.acts; end = h.end })
 
   seed_valid : (m : ℕ) (e : Draft) → m ≤ 4294967295 → seed_after d m ≡ Ok e → IsDraft e
   seed_valid m e range is = go (is_some d.seed) is
@@ -103,7 +201,14 @@ module _ (d : Draft) (h : IsDraft d) (open_end : d.end ≡ None) where
       go true is = cc
       go false is =
           let same : record d { seed = Some m } ≡ e = cc in
-          subst IsDraft same (record { settings = h.settings; seed = λ n f. (let here : m ≡ n = cc in subst (λ k. k ≤ 4294967295) here range); slots = h.slots; size = h.size; end = h.end })
+          subst IsDraft same (record { settings = h.settings; seed = λ n f. (let here : m ≡ n = cc in subst (λ k. k ≤ 4294967295) here range); slots = h.slots; size = h.size; acts = h.acts; end = h.end })
+
+  still_taken : (slots : List (Option Slot)) (k : ℕ) (new : Slot) (i : ℕ) → is_some (get_or slots i None) ≡ true → is_some (get_or (set slots k (Some new)) i None) ≡ true
+  still_taken [] k new i taken = cc
+  still_taken (o ∷ os) zero new zero taken = refl
+  still_taken (o ∷ os) zero new (suc i) taken = taken
+  still_taken (o ∷ os) (suc k) new zero taken = taken
+  still_taken (o ∷ os) (suc k) new (suc i) taken = still_taken os k new i taken
 
   slot_valid : (number : ℕ) (slot : Slot) → IsSlot slot → IsDraft (with_slot d number slot)
   slot_valid number slot valid = record {
@@ -111,17 +216,23 @@ module _ (d : Draft) (h : IsDraft d) (open_end : d.end ≡ None) where
     seed = h.seed;
     slots = record { each = slots_set d.slots number slot h.slots.each valid };
     size = length-set d.slots number (Some slot) ∙ h.size;
+    acts = record {
+      few = h.acts.few;
+      in_order = h.acts.in_order;
+      numbered = h.acts.numbered;
+      each = all_timed d.slots (set d.slots number (Some slot)) (length d.acts) (length d.acts) d.latest d.latest d.acts (still_taken d.slots number slot) (omega arith) (omega arith) h.acts.each;
+    };
     end = λ last e. cc;
   }
 
   node_valid : (number id place : ℕ) (e : Draft) → (number ≤ last_node) × (id ≤ 255) × (place ≤ 255) → node_after d number id place ≡ Ok e → IsDraft e
   node_valid number id place e range is = go (is_some (slot_at d number)) is
     where
-      go : (b : Bool) → cond b (Err Twice) (Ok (with_slot d number (record { id = id; place = place; start = None }))) ≡ Ok e → IsDraft e
+      go : (b : Bool) → cond b (Err Twice) (Ok (with_slot d number (record { id = id; place = place; start = None; draws = [] }))) ≡ Ok e → IsDraft e
       go true is = cc
       go false is =
-          let same : with_slot d number (record { id = id; place = place; start = None }) ≡ e = cc in
-          subst IsDraft same (slot_valid number (record { id = id; place = place; start = None }) (record { id = range.1; place = range.2; start = λ t f. cc }))
+          let same : with_slot d number (record { id = id; place = place; start = None; draws = [] }) ≡ e = cc in
+          subst IsDraft same (slot_valid number (record { id = id; place = place; start = None; draws = [] }) (record { id = range.1; place = range.2; start = λ t f. cc; few_draws = omega arith; draws = All-nil (λ draw. draw ≤ last_draw) }))
 
   late_valid : (number start : ℕ) (e : Draft) → (number ≤ last_node) × (start ≤ most_ticks) → late_after d number start ≡ Ok e → IsDraft e
   late_valid number start e range is = at (slot_at d number) refl is
@@ -135,16 +246,64 @@ module _ (d : Draft) (h : IsDraft d) (open_end : d.end ≡ None) where
           go false is =
               let same : with_slot d number (record slot { start = Some start }) ≡ e = cc in
               let old : IsSlot slot = h.slots.each number slot here in
-              subst IsDraft same (slot_valid number (record slot { start = Some start }) (record { id = old.id; place = old.place; start = λ t f. (let now : start ≡ t = cc in subst (λ k. k ≤ most_ticks) now range.1) }))
+              subst IsDraft same (slot_valid number (record slot { start = Some start }) (record { id = old.id; place = old.place; start = λ t f. (let now : start ≡ t = cc in subst (λ k. k ≤ most_ticks) now range.1); few_draws = old.few_draws; draws = old.draws }))
+
+  draw_valid : (number draw : ℕ) (e : Draft) → (number ≤ last_node) × (draw ≤ last_draw) → draw_after d number draw ≡ Ok e → IsDraft e
+  draw_valid number draw e range is = at (slot_at d number) refl is
+    where
+      at : (o : Option Slot) → slot_at d number ≡ o → draw_in_slot d number draw o ≡ Ok e → IsDraft e
+      at None here is = cc
+      at (Some slot) here is = go (leb most_draws (length slot.draws)) refl is
+        where
+          go : (b : Bool) → leb most_draws (length slot.draws) ≡ b → cond b (Err TooMany) (Ok (with_slot d number (record slot { draws = slot.draws ++ draw ∷ [] }))) ≡ Ok e → IsDraft e
+          go true many is = cc
+          go false many is =
+              let same : with_slot d number (record slot { draws = slot.draws ++ draw ∷ [] }) ≡ e = cc in
+              let old : IsSlot slot = h.slots.each number slot here in
+              let room : length slot.draws < most_draws = (let test = many in grind (arith, nat_tests)) in
+              let small : draw ≤ last_draw = range.1 in
+              let low : ℕ → Type 0 = λ n. n ≤ last_draw in
+              subst IsDraft same (slot_valid number (record slot { draws = slot.draws ++ draw ∷ [] }) (record {
+                id = old.id;
+                place = old.place;
+                start = old.start;
+                few_draws = omega (arith, length-append slot.draws (draw ∷ []));
+                draws = All-append low slot.draws (draw ∷ []) old.draws (All-cons low draw [] small (All-nil low));
+              }))
+
+  offer_valid : (tick number : ℕ) (frame : List ℕ) (e : Draft) → IsFrame frame → offer_after d tick number frame ≡ Ok e → IsDraft e
+  offer_valid tick number frame e whole is = go (is_some (slot_at d number)) (ltb tick d.latest) (leb most_acts (length d.acts)) refl refl refl is
+    where
+      go : (known early many : Bool) → is_some (slot_at d number) ≡ known → ltb tick d.latest ≡ early → leb most_acts (length d.acts) ≡ many
+          → cond (not known) (Err UnknownNode) (cond early (Err Order) (cond many (Err TooMany) (Ok (with_offer d tick number frame)))) ≡ Ok e → IsDraft e
+      go false early many stood order count is = cc
+      go true true many stood order count is = cc
+      go true false true stood order count is = cc
+      go true false false stood order count is =
+          let same : with_offer d tick number frame ≡ e = cc in
+          let later : d.latest ≤ tick = (let test = order in grind (arith, nat_tests)) in
+          let room : length d.acts < most_acts = (let test = count in grind (arith, nat_tests)) in
+          subst IsDraft same (record {
+            settings = h.settings;
+            seed = h.seed;
+            slots = h.slots;
+            size = h.size;
+            acts = one_more_act d.slots d.acts d.latest tick number frame h.acts later room stood whole;
+            end = λ last f. cc;
+          })
 
   end_valid : (last : ℕ) (e : Draft) → (1 ≤ last) × (last ≤ most_ticks) → end_after d last ≡ Ok e → IsDraft e
-  end_valid last e range is = go (list_any is_some d.slots) refl is
+  end_valid last e range is = order (leb last d.latest) refl is
     where
-      go : (b : Bool) → list_any is_some d.slots ≡ b → cond b (Ok (record d { end = Some last })) (Err NoNode) ≡ Ok e → IsDraft e
-      go false any is = cc
-      go true any is =
+      go : d.latest < last → (b : Bool) → list_any is_some d.slots ≡ b → cond b (Ok (record d { end = Some last })) (Err NoNode) ≡ Ok e → IsDraft e
+      go above false any is = cc
+      go above true any is =
           let same : record d { end = Some last } ≡ e = cc in
-          subst IsDraft same (record { settings = h.settings; seed = h.seed; slots = h.slots; size = h.size; end = λ n f. (let now : last ≡ n = cc in subst (λ k. (1 ≤ k) × (k ≤ most_ticks) × (list_any is_some d.slots ≡ true)) now (range.0, range.1, any)) })
+          subst IsDraft same (record { settings = h.settings; seed = h.seed; slots = h.slots; size = h.size; acts = h.acts; end = λ n f. (let now : last ≡ n = cc in subst (λ k. (1 ≤ k) × (k ≤ most_ticks) × (list_any is_some d.slots ≡ true) × (d.latest < k)) now (range.0, range.1, any, above)) })
+
+      order : (b : Bool) → leb last d.latest ≡ b → cond b (Err Order) (cond (list_any is_some d.slots) (Ok (record d { end = Some last })) (Err NoNode)) ≡ Ok e → IsDraft e
+      order true below is = cc
+      order false above is = go (let test = above in grind (arith, nat_tests)) (list_any is_some d.slots) refl is
 
   line_valid : (l : ScriptLine) (e : Draft) → InRange l → line_after d l ≡ Ok e → IsDraft e
   line_valid Skipped e range is = let same : d ≡ e = cc in subst IsDraft same h
@@ -152,6 +311,8 @@ module _ (d : Draft) (h : IsDraft d) (open_end : d.end ≡ None) where
   line_valid (Seed m) e range is = seed_valid m e range is
   line_valid (Node number id place) e range is = node_valid number id place e range is
   line_valid (Late number start) e range is = late_valid number start e range is
+  line_valid (Draw number draw) e range is = draw_valid number draw e range is
+  line_valid (Offer tick number frame) e range is = offer_valid tick number frame e range.2 is
   line_valid (End last) e range is = end_valid last e range is
 
 unskipped_valid : (d : Draft) (o : Option ℕ) (l : ScriptLine) (e : Draft) → IsDraft d → d.end ≡ o → InRange l → unskipped_after d o (Ok l) ≡ Ok e → IsDraft e
@@ -169,6 +330,8 @@ draft_valid d (Ok (Set w m)) e h range is = unskipped_valid d d.end (Set w m) e 
 draft_valid d (Ok (Seed m)) e h range is = unskipped_valid d d.end (Seed m) e h refl (range (Seed m) refl) is
 draft_valid d (Ok (Node number id place)) e h range is = unskipped_valid d d.end (Node number id place) e h refl (range (Node number id place) refl) is
 draft_valid d (Ok (Late number start)) e h range is = unskipped_valid d d.end (Late number start) e h refl (range (Late number start) refl) is
+draft_valid d (Ok (Draw number draw)) e h range is = unskipped_valid d d.end (Draw number draw) e h refl (range (Draw number draw) refl) is
+draft_valid d (Ok (Offer tick number frame)) e h range is = unskipped_valid d d.end (Offer tick number frame) e h refl (range (Offer tick number frame) refl) is
 draft_valid d (Ok (End last)) e h range is = unskipped_valid d d.end (End last) e h refl (range (End last) refl) is
 
 -- ---- the script of all lines
@@ -180,6 +343,17 @@ value_range w (Some n) usual h = h n refl
 seed_range : (o : Option ℕ) → ((n : ℕ) → o ≡ Some n → n ≤ 4294967295) → unwrap_or o 1 ≤ 4294967295
 seed_range None h = omega arith
 seed_range (Some n) h = h n refl
+
+-- the acts of a draft are those of a valid script
+acts_valid : (to last count latest : ℕ) (slots : List (Option Slot)) (held : List Act) → count ≤ most_acts → latest < last → All (IsTimed slots count latest) held → All (IsAct (numbers_of (nodes_from to 0 slots)) last) held
+acts_valid to last count latest slots held few above h k d below = valid (get_or held k d) (h k d below)
+  where
+    done : (tick : ℕ) (x : Deed) → IsOffered slots count x → IsDeed (numbers_of (nodes_from to 0 slots)) tick x
+    done tick (OfferDeed number node frame) o = (o.0, omega (arith, o.1), number_stands to 0 node slots node (omega arith) o.2, o.3)
+    done tick (NoiseDeed until) o = absurd o
+
+    valid : (a : Act) → IsTimed slots count latest a → IsAct (numbers_of (nodes_from to 0 slots)) last a
+    valid a t = record { before_end = omega (arith, t.early); deed = done a.tick a.deed t.deed }
 
 script_valid : (d : Draft) (last : ℕ) → IsDraft d → d.end ≡ Some last → IsScript (script_with d last)
 script_valid d last h is =
@@ -209,6 +383,10 @@ script_valid d last h is =
       nodes = nodes_range (value_in d.settings To) 0 d.slots to.0 to.1 (omega (arith, h.size)) h.slots;
       end_low = end.0;
       end_high = end.1;
+      few_acts = h.acts.few;
+      acts_in_order = h.acts.in_order;
+      offers_in_order = subst IsStrictlyIncreasing (sym h.acts.numbered) (range_increases 1 (length d.acts));
+      acts = acts_valid (value_in d.settings To) last (length d.acts) d.latest d.slots d.acts h.acts.few end.3 h.acts.each;
     }
 
 reading_valid : (number : ℕ) (x : Result Draft ScriptReason) (lines : List (List ℕ)) (s : Script) → ((d : Draft) → x ≡ Ok d → IsDraft d) → reading_from number x (map parsed_line lines) ≡ Ok s → IsScript s

@@ -1,23 +1,28 @@
 -- What the code keeps of the lines that it has read, and how it takes one more line. What a script is doesn't rest
 -- on it: that stands in Reading, and proofs/Drafts shows that both agree.
-use Rattle.std.specs.Prelude.{ℕ, ◌+◌, List, [], ◌∷◌, replicate, get_or, slice_set, is_some, unwrap_or, Option, Some, None, Result, Ok, Err, if◌then◌else◌}
+use Rattle.std.specs.Prelude.{ℕ, ◌+◌, ◌≡◌, ⊤, List, [], ◌∷◌, ◌++◌, length, nat_le, nat_lt, not, replicate, get_or, slice_set, is_some, unwrap_or, Option, Some, None, Result, Ok, Err, if◌then◌else◌}
 use Rattle.std.specs.List.{list_any}
 use Rattle.t1s_base.specs.Limits.{most_nodes}
 use Rattle.t1s_script.specs.Settings.{default_of}
+use Rattle.t1s_script.specs.Limits.{most_acts, most_draws}
 use Rattle.t1s_script.specs.ParsedLine.{ParsedLine}
-use Rattle.t1s_script.specs.Reading.{refused_at}
+use Rattle.t1s_script.specs.Reading.{refused_at, draw_list, offer_act}
 use Rattle.t1s_script.specs.declared.draft.Draft.{Draft}
 use Rattle.t1s_script.specs.declared.draft.Settings.{Settings}
 use Rattle.t1s_script.specs.declared.draft.Slot.{Slot}
+use Rattle.t1s_script.specs.declared.refusals.LineFault.{LineFault}
+use Rattle.t1s_script.specs.declared.refusals.LineFault.TheVariants.{Reason, Memory}
+use Rattle.t1s_script.specs.declared.refusals.ScriptFault.{ScriptFault}
+use Rattle.t1s_script.specs.declared.refusals.ScriptFault.TheVariants.{Refused, Memory as NoMemory}
 use Rattle.t1s_script.specs.declared.refusals.ScriptReason.{ScriptReason}
-use Rattle.t1s_script.specs.declared.refusals.ScriptReason.TheVariants.{AfterEnd, Twice, UnknownNode, NoNode, NoEnd}
+use Rattle.t1s_script.specs.declared.refusals.ScriptReason.TheVariants.{AfterEnd, Twice, UnknownNode, Order, TooMany, NoNode, NoEnd}
 use Rattle.t1s_script.specs.declared.refusals.ScriptRefusal.{ScriptRefusal}
 use Rattle.t1s_script.specs.declared.script.NodeLine.{NodeLine}
 use Rattle.t1s_script.specs.declared.script.Script.{Script}
 use Rattle.t1s_script.specs.declared.words.Setting.{Setting}
 use Rattle.t1s_script.specs.declared.words.Setting.TheVariants.{Count, To, Rise, Fall, Burst, Room}
 use Rattle.t1s_script.specs.declared.words.ScriptLine.{ScriptLine}
-use Rattle.t1s_script.specs.declared.words.ScriptLine.TheVariants.{Skipped, Set, Seed, Node, Late, End}
+use Rattle.t1s_script.specs.declared.words.ScriptLine.TheVariants.{Skipped, Set, Seed, Node, Late, Draw, Offer, End}
 
 -- ---- the settings
 
@@ -51,7 +56,7 @@ value_in s w = unwrap_or (given s w) (default_of w)
 
 -- no line stood yet: there is a free slot for each node that a segment may have
 abbrev pub draft_start : Draft
-draft_start = record { settings = no_settings; seed = None; slots = replicate most_nodes None; end = None }
+draft_start = record { settings = no_settings; seed = None; slots = replicate most_nodes None; acts = []; latest = 0; end = None }
 
 -- what stood for the node of that number, if its `node` line stood
 abbrev pub slot_at : Draft → ℕ → Option Slot
@@ -70,7 +75,7 @@ seed_after d n = if is_some d.seed then Err Twice else Ok (record d { seed = Som
 
 abbrev pub node_after : Draft → ℕ → ℕ → ℕ → Result Draft ScriptReason
 node_after d number id place =
-    if is_some (slot_at d number) then Err Twice else Ok (with_slot d number (record { id = id; place = place; start = None }))
+    if is_some (slot_at d number) then Err Twice else Ok (with_slot d number (record { id = id; place = place; start = None; draws = [] }))
 
 abbrev pub late_in_slot : Draft → ℕ → ℕ → Option Slot → Result Draft ScriptReason
 late_in_slot d number start (Some slot) =
@@ -80,8 +85,32 @@ late_in_slot d number start None = Err UnknownNode
 abbrev pub late_after : Draft → ℕ → ℕ → Result Draft ScriptReason
 late_after d number start = late_in_slot d number start (slot_at d number)
 
+abbrev pub draw_in_slot : Draft → ℕ → ℕ → Option Slot → Result Draft ScriptReason
+draw_in_slot d number draw (Some slot) =
+    if nat_le most_draws (length slot.draws) then Err TooMany
+    else Ok (with_slot d number (record slot { draws = slot.draws ++ draw ∷ [] }))
+draw_in_slot d number draw None = Err UnknownNode
+
+abbrev pub draw_after : Draft → ℕ → ℕ → Result Draft ScriptReason
+draw_after d number draw = draw_in_slot d number draw (slot_at d number)
+
+-- with one more act, the offer of that frame
+abbrev pub with_offer : Draft → ℕ → ℕ → List ℕ → Draft
+with_offer d tick number frame =
+    record d { acts = d.acts ++ offer_act (1 + length d.acts, (tick, number, frame)) ∷ []; latest = tick }
+
+abbrev pub offer_after : Draft → ℕ → ℕ → List ℕ → Result Draft ScriptReason
+offer_after d tick number frame =
+    if not (is_some (slot_at d number)) then Err UnknownNode
+    else if nat_lt tick d.latest then Err Order
+    else if nat_le most_acts (length d.acts) then Err TooMany
+    else Ok (with_offer d tick number frame)
+
 abbrev pub end_after : Draft → ℕ → Result Draft ScriptReason
-end_after d last = if list_any is_some d.slots then Ok (record d { end = Some last }) else Err NoNode
+end_after d last =
+    if nat_le last d.latest then Err Order
+    else if list_any is_some d.slots then Ok (record d { end = Some last })
+    else Err NoNode
 
 -- a line that isn't refused by itself
 abbrev pub line_after : Draft → ScriptLine → Result Draft ScriptReason
@@ -90,6 +119,8 @@ line_after d (Set w n) = set_after d w n
 line_after d (Seed n) = seed_after d n
 line_after d (Node number id place) = node_after d number id place
 line_after d (Late number start) = late_after d number start
+line_after d (Draw number draw) = draw_after d number draw
+line_after d (Offer tick number frame) = offer_after d tick number frame
 line_after d (End last) = end_after d last
 
 -- a line that isn't skipped, where `end` stood or not
@@ -103,11 +134,23 @@ abbrev pub draft_after : Draft → ParsedLine → Result Draft ScriptReason
 draft_after d (Ok Skipped) = Ok d
 draft_after d line = unskipped_after d d.end line
 
+-- the answer to a line, where the draft is new afterwards: it is taken, or refused for its reason. Out of memory may
+-- come in place of either.
+abbrev pub IsTaken : Result Draft ScriptReason → Result Unit LineFault → Draft → Type 0
+IsTaken after (Ok done) new = after ≡ Ok new
+IsTaken after (Err (Reason reason)) new = after ≡ Err reason
+IsTaken after (Err (Memory error)) new = ⊤
+
+-- what a line with that number is answered with, where it isn't taken
+abbrev pub fault_at : ℕ → LineFault → ScriptFault
+fault_at number (Reason reason) = Refused (record { line = number; reason = reason })
+fault_at number (Memory error) = NoMemory error
+
 -- ---- the script that the lines give
 
 -- the node of a slot: a script's `to` is its timer, and without a `late` line it starts at tick 0
 abbrev pub node_of : ℕ → ℕ → Slot → NodeLine
-node_of to number slot = record { no = number; id = slot.id; place = slot.place; to = to; start = unwrap_or slot.start 0 }
+node_of to number slot = record { no = number; id = slot.id; place = slot.place; to = to; start = unwrap_or slot.start 0; draws = draw_list slot.draws }
 
 -- the nodes in ascending number, where the first of these slots is that of that number
 abbrev pub nodes_from : ℕ → ℕ → List (Option Slot) → List NodeLine
@@ -126,6 +169,7 @@ script_with d last = record {
   room = value_in d.settings Room;
   seed = unwrap_or d.seed 1;
   nodes = nodes_from (value_in d.settings To) 0 d.slots;
+  acts = d.acts;
   end = last;
 }
 

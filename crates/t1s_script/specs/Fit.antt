@@ -1,8 +1,11 @@
 -- Fit scripts: the premises on which the promises of the shared line stand, the span, and the number that is
 -- written as the bound of a start.
-use Rattle.std.specs.Prelude.{ℕ, ◌+◌, ◌*◌, ◌≡◌, ◌≢◌, ◌<◌, ◌≤◌, ◌==◌, not, List, [], ◌∷◌, ◌++◌, max, find, slice_get, count_by, nat_lt, nat_le, Option, Some, None, Result, Ok, Err, All, if◌then◌else◌}
+use Rattle.std.specs.Prelude.{ℕ, Bool, true, false, ◌+◌, ◌*◌, ◌≡◌, ◌≢◌, ◌<◌, ◌≤◌, ◌==◌, not, List, [], ◌∷◌, ◌++◌, max, find, slice_get, count_by, nat_lt, nat_le, Option, Some, None, Result, Ok, Err, All, if◌then◌else◌}
 use Rattle.std.specs.Int.{abs_diff}
 use Rattle.t1s_script.specs.declared.fitness.Unfit.{Unfit}
+use Rattle.t1s_script.specs.declared.script.Act.{Act}
+use Rattle.t1s_script.specs.declared.script.Deed.{Deed}
+use Rattle.t1s_script.specs.declared.script.Deed.TheVariants.{Offer, Noise}
 use Rattle.t1s_script.specs.declared.script.NodeLine.{NodeLine}
 use Rattle.t1s_script.specs.declared.script.Script.{Script}
 
@@ -77,6 +80,19 @@ other_timer to None = None
 abbrev pub with_other_timer : ℕ → List NodeLine → Option Unfit
 with_other_timer to nodes = other_timer to (find (λ (n : NodeLine). not (n.to == to)) nodes)
 
+-- 5: there is no noise; else the tick at which the first begins, and its end
+abbrev pub noise_or : ℕ → Deed → Option Unfit → Option Unfit
+noise_or tick (Noise until) later = unfit 5 tick until
+noise_or tick (Offer number node frame) later = later
+
+abbrev pub with_noise : List Act → Option Unfit
+with_noise [] = None
+with_noise (a ∷ acts) = noise_or a.tick a.deed (with_noise acts)
+
+abbrev pub is_noise : Deed → Bool
+is_noise (Noise until) = true
+is_noise (Offer number node frame) = false
+
 -- 6: an opportunity has at most 15 further frames; else how many it has, and 15
 abbrev pub with_long_bursts : ℕ → Option Unfit
 with_long_bursts burst = if nat_le burst 15 then None else unfit 6 burst 15
@@ -97,7 +113,8 @@ unmet s =
     or_else (with_repeat s.nodes) (
     or_else (with_high_id s.count s.nodes) (
     or_else (with_other_timer s.to s.nodes) (
-    or_else (with_long_bursts s.burst) (with_long_cable s)))))
+    or_else (with_noise s.acts) (
+    or_else (with_long_bursts s.burst) (with_long_cable s))))))
 
 -- what is answered where this premise isn't met, or all are
 abbrev pub fitness_of : Option Unfit → Result Unit Unfit
@@ -110,5 +127,6 @@ pub record IsFit (s : Script) : Type 0 where
   pub distinct_ids : (i j : ℕ) (m n : NodeLine) → slice_get s.nodes i ≡ Some m → slice_get s.nodes j ≡ Some n → i < j → m.id ≢ n.id
   pub low_ids : All (λ (n : NodeLine). n.id < s.count) s.nodes
   pub one_timer : All (λ (n : NodeLine). n.to ≡ s.to) s.nodes
+  pub no_noise : All (λ (a : Act). is_noise a.deed ≡ false) s.acts
   pub short_bursts : s.burst ≤ 15
   pub short_cable : 2 * span_of s + s.rise < s.to

@@ -1,5 +1,7 @@
 pub mod Lines
 pub mod Settings
+pub mod Limits
+pub mod FrameTexts
 pub mod ParsedLine
 pub mod Values
 pub mod Rules

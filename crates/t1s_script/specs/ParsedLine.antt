@@ -4,15 +4,17 @@ use Rattle.std.specs.Str.{bytes_eq}
 use Rattle.t1s_base.specs.Limits.{last_node, most_ticks}
 use Rattle.t1s_base.specs.Numbers.{number_of}
 use Rattle.t1s_script.specs.Lines.{fields_of}
-use Rattle.t1s_script.specs.Settings.{lowest, highest}
+use Rattle.t1s_script.specs.Settings.{setting_range}
+use Rattle.t1s_script.specs.Limits.{last_draw}
+use Rattle.t1s_script.specs.FrameTexts.{hex_frame, fill_frame}
 use Rattle.t1s_script.specs.declared.refusals.ScriptReason.{ScriptReason}
 use Rattle.t1s_script.specs.declared.refusals.ScriptReason.TheVariants.{UnknownWord, Form, Number, OutOfRange}
-use Rattle.t1s_script.specs.declared.words.Setting.{Setting}
+use Rattle.t1s_script.specs.declared.words.Range.{Range}
 use Rattle.t1s_script.specs.declared.words.Setting.TheVariants.{Count, To, Rise, Fall, Burst, Room}
 use Rattle.t1s_script.specs.declared.words.Word.{Word}
-use Rattle.t1s_script.specs.declared.words.Word.TheVariants.{Set as SetWord, Seed as SeedWord, Node as NodeWord, Late as LateWord, End as EndWord}
+use Rattle.t1s_script.specs.declared.words.Word.TheVariants.{Set as SetWord, Seed as SeedWord, Node as NodeWord, Late as LateWord, Draw as DrawWord, Offer as OfferWord, Fill as FillWord, End as EndWord}
 use Rattle.t1s_script.specs.declared.words.ScriptLine.{ScriptLine}
-use Rattle.t1s_script.specs.declared.words.ScriptLine.TheVariants.{Skipped, Set, Seed, Node, Late, End}
+use Rattle.t1s_script.specs.declared.words.ScriptLine.TheVariants.{Skipped, Set, Seed, Node, Late, Draw, Offer, End}
 
 -- what a line says, or the first reason of the table for which it is refused by itself
 abbrev pub ParsedLine : Type 0
@@ -30,72 +32,88 @@ word_of field =
     else if bytes_eq field (codes "seed") then Some SeedWord
     else if bytes_eq field (codes "node") then Some NodeWord
     else if bytes_eq field (codes "late") then Some LateWord
+    else if bytes_eq field (codes "draw") then Some DrawWord
+    else if bytes_eq field (codes "offer") then Some OfferWord
+    else if bytes_eq field (codes "fill") then Some FillWord
     else if bytes_eq field (codes "end") then Some EndWord
     else None
 
--- ---- the numbers of a line: each is a number, and then each lies in its range
+-- ---- the fields of a line: as many as the word takes, then each number is one, and then each lies in its range
 
-abbrev pub setting_line : Setting → Option ℕ → ParsedLine
-setting_line w (Some n) = if nat_le (lowest w) n && nat_le n (highest w) then Ok (Set w n) else Err OutOfRange
-setting_line w None = Err Number
+-- the numbers up to one
+abbrev pub up_to : ℕ → Range
+up_to greatest = record { least = 0; greatest = greatest }
 
--- a seed is 0 to 4294967295
-abbrev pub seed_line : Option ℕ → ParsedLine
-seed_line (Some n) = if nat_le n 4294967295 then Ok (Seed n) else Err OutOfRange
-seed_line None = Err Number
+abbrev pub is_within : Range → ℕ → Bool
+is_within range n = nat_le range.least n && nat_le n range.greatest
 
--- a node's number is 0 to `last_node`, its ID and its place 0 to 255
-abbrev pub node_line : Option ℕ → Option ℕ → Option ℕ → ParsedLine
-node_line (Some number) (Some id) (Some place) =
-    if nat_le number last_node && nat_le id 255 && nat_le place 255 then Ok (Node number id place) else Err OutOfRange
-node_line _ _ _ = Err Number
+-- two numbers in their ranges
+abbrev pub two_within : Range → Range → Option ℕ → Option ℕ → Result (ℕ × ℕ) ScriptReason
+two_within first second (Some a) (Some b) = if is_within first a && is_within second b then Ok (a, b) else Err OutOfRange
+two_within first second _ _ = Err Number
 
--- a start is 0 to `most_ticks`
-abbrev pub late_line : Option ℕ → Option ℕ → ParsedLine
-late_line (Some number) (Some start) = if nat_le number last_node && nat_le start most_ticks then Ok (Late number start) else Err OutOfRange
-late_line _ _ = Err Number
+-- three numbers in their ranges
+abbrev pub three_within : Range → Range → Range → Option ℕ → Option ℕ → Option ℕ → Result (ℕ × ℕ × ℕ) ScriptReason
+three_within first second third (Some a) (Some b) (Some c) =
+    if is_within first a && is_within second b && is_within third c then Ok (a, b, c) else Err OutOfRange
+three_within first second third _ _ _ = Err Number
 
--- an end is 1 to `most_ticks`
-abbrev pub end_line : Option ℕ → ParsedLine
-end_line (Some last) = if nat_le 1 last && nat_le last most_ticks then Ok (End last) else Err OutOfRange
-end_line None = Err Number
+-- one number and no further field
+abbrev pub one_within : Range → Option ℕ → Result ℕ ScriptReason
+one_within range (Some a) = if is_within range a then Ok a else Err OutOfRange
+one_within range None = Err Number
 
--- ---- the fields of a line: as many as the word takes
+abbrev pub one_number : Range → List (List ℕ) → Result ℕ ScriptReason
+one_number range (a ∷ []) = one_within range (number_of a)
+one_number range _ = Err Form
 
--- the number of the only field; it is None where that field isn't a number
-abbrev pub sole_number : List (List ℕ) → Result (Option ℕ) ScriptReason
-sole_number (field ∷ []) = Ok (number_of field)
-sole_number _ = Err Form
+-- two numbers and no further field
+abbrev pub two_numbers : Range → Range → List (List ℕ) → Result (ℕ × ℕ) ScriptReason
+two_numbers first second (a ∷ b ∷ []) = two_within first second (number_of a) (number_of b)
+two_numbers first second _ = Err Form
 
--- what a line with one number says
-abbrev pub line_with : (Option ℕ → ParsedLine) → Result (Option ℕ) ScriptReason → ParsedLine
-line_with says (Ok number) = says number
-line_with says (Err reason) = Err reason
+-- three numbers and no further field
+abbrev pub three_numbers : Range → Range → Range → List (List ℕ) → Result (ℕ × ℕ × ℕ) ScriptReason
+three_numbers first second third (a ∷ b ∷ c ∷ []) = three_within first second third (number_of a) (number_of b) (number_of c)
+three_numbers first second third _ = Err Form
 
-abbrev pub setting_in : Setting → List (List ℕ) → ParsedLine
-setting_in w fields = line_with (setting_line w) (sole_number fields)
+-- ---- what a line says with its numbers
 
-abbrev pub seed_in : List (List ℕ) → ParsedLine
-seed_in fields = line_with seed_line (sole_number fields)
+abbrev pub says : {X : Type 0} → (X → ScriptLine) → Result X ScriptReason → ParsedLine
+says line (Ok numbers) = Ok (line numbers)
+says line (Err reason) = Err reason
 
-abbrev pub node_in : List (List ℕ) → ParsedLine
-node_in (number ∷ id ∷ place ∷ []) = node_line (number_of number) (number_of id) (number_of place)
-node_in _ = Err Form
+-- a frame that is offered: what is wrong with the frame comes after what is wrong with a number
+abbrev pub offers : Result (ℕ × ℕ) ScriptReason → Result (List ℕ) ScriptReason → ParsedLine
+offers (Ok target) frame = says (λ octets. Offer target.0 target.1 octets) frame
+offers (Err reason) frame = Err reason
 
-abbrev pub late_in : List (List ℕ) → ParsedLine
-late_in (number ∷ start ∷ []) = late_line (number_of number) (number_of start)
-late_in _ = Err Form
+-- the tick, the node and the octets
+abbrev pub offer_in : List (List ℕ) → ParsedLine
+offer_in (tick ∷ number ∷ octets ∷ []) = offers (two_within (up_to most_ticks) (up_to last_node) (number_of tick) (number_of number)) (hex_frame octets)
+offer_in _ = Err Form
 
-abbrev pub end_in : List (List ℕ) → ParsedLine
-end_in fields = line_with end_line (sole_number fields)
+-- The tick, the node, how many octets and the octet. How many has no range of its own but that of all numbers: other
+-- sizes than those of a frame are `FrameSize`.
+abbrev pub fills : Result (ℕ × ℕ × ℕ) ScriptReason → List ℕ → ParsedLine
+fills (Ok numbers) octet = offers (Ok (numbers.0, numbers.1)) (fill_frame numbers.2 octet)
+fills (Err reason) octet = Err reason
 
--- what the fields after the word say
+abbrev pub fill_in : List (List ℕ) → ParsedLine
+fill_in (tick ∷ number ∷ count ∷ octet ∷ []) =
+    fills (three_within (up_to most_ticks) (up_to last_node) (up_to 9999999999) (number_of tick) (number_of number) (number_of count)) octet
+fill_in _ = Err Form
+
+-- what the fields after the word say, a row for each word
 abbrev pub line_by_word : Option Word → List (List ℕ) → ParsedLine
-line_by_word (Some (SetWord w)) fields = setting_in w fields
-line_by_word (Some SeedWord) fields = seed_in fields
-line_by_word (Some NodeWord) fields = node_in fields
-line_by_word (Some LateWord) fields = late_in fields
-line_by_word (Some EndWord) fields = end_in fields
+line_by_word (Some (SetWord w)) fields = says (λ n. Set w n) (one_number (setting_range w) fields)
+line_by_word (Some SeedWord) fields = says (λ n. Seed n) (one_number (up_to 4294967295) fields)
+line_by_word (Some NodeWord) fields = says (λ n. Node n.0 n.1 n.2) (three_numbers (up_to last_node) (up_to 255) (up_to 255) fields)
+line_by_word (Some LateWord) fields = says (λ n. Late n.0 n.1) (two_numbers (up_to last_node) (up_to most_ticks) fields)
+line_by_word (Some DrawWord) fields = says (λ n. Draw n.0 n.1) (two_numbers (up_to last_node) (up_to last_draw) fields)
+line_by_word (Some OfferWord) fields = offer_in fields
+line_by_word (Some FillWord) fields = fill_in fields
+line_by_word (Some EndWord) fields = says (λ n. End n) (one_number (record { least = 1; greatest = most_ticks }) fields)
 line_by_word None fields = Err UnknownWord
 
 -- ---- whole lines

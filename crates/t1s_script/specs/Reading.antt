@@ -1,12 +1,12 @@
 -- What the octets of a script give, said over the list of all its lines: the script, or the first line that
 -- breaks a rule and the first reason of the table for it.
-use Rattle.std.specs.Prelude.{ℕ, ◌+◌, List, [], ◌∷◌, length, map, take, flat_map, filter_map, nat_lt, codes, Option, option_map, Result, Ok, Err, ⊤, ◌≡◌, if◌then◌else◌}
+use Rattle.std.specs.Prelude.{ℕ, ◌+◌, List, [], ◌∷◌, length, map, take, flat_map, None, Some, filter_map, nat_lt, codes, Option, option_map, Result, Ok, Err, ⊤, ◌≡◌, if◌then◌else◌}
 use Rattle.std.specs.List.{enumerate_from, range_with_len}
 use Rattle.std.specs.Str.{bytes_eq}
 use Rattle.t1s_base.specs.Limits.{most_nodes}
 use Rattle.t1s_script.specs.Lines.{lines_of}
 use Rattle.t1s_script.specs.ParsedLine.{ParsedLine, parsed_line}
-use Rattle.t1s_script.specs.Values.{seed_from, node_for, start_for, end_from, first_given, setting_of}
+use Rattle.t1s_script.specs.Values.{seed_from, node_for, start_for, draw_for, offer_from, end_from, first_given, setting_of}
 use Rattle.t1s_script.specs.Rules.{reason_of}
 use Rattle.t1s_script.specs.Script.{IsScript}
 use Rattle.t1s_script.specs.declared.refusals.ScriptReason.{ScriptReason}
@@ -14,11 +14,18 @@ use Rattle.t1s_script.specs.declared.refusals.ScriptReason.TheVariants.{TooLong,
 use Rattle.t1s_script.specs.declared.refusals.ScriptRefusal.{ScriptRefusal}
 use Rattle.t1s_script.specs.declared.refusals.ScriptFault.{ScriptFault}
 use Rattle.t1s_script.specs.declared.refusals.ScriptFault.TheVariants.{Refused, Memory}
+use Rattle.t1s_script.specs.declared.script.Act.{Act}
+use Rattle.t1s_script.specs.declared.script.Deed.TheVariants.{Offer}
 use Rattle.t1s_script.specs.declared.script.NodeLine.{NodeLine}
 use Rattle.t1s_script.specs.declared.script.Script.{Script}
 use Rattle.t1s_script.specs.declared.words.Setting.TheVariants.{Count, To, Rise, Fall, Burst, Room}
 
 -- ---- the script of lines that break no rule
+
+-- the draws that lines list for a node, in their order; without such a line there is no list
+abbrev pub draw_list : List ℕ → Option (List ℕ)
+draw_list [] = None
+draw_list (draw ∷ draws) = Some (draw ∷ draws)
 
 -- the node of that number, as its `node` line names it: its timer is that of the script, and without a `late`
 -- line it starts at tick 0
@@ -29,6 +36,7 @@ node_of_line lines number line = record {
   place = line.1;
   to = setting_of To lines;
   start = first_given (start_for number) lines 0;
+  draws = draw_list (filter_map (draw_for number) lines);
 }
 
 -- the node of that number, if it has a `node` line
@@ -38,6 +46,14 @@ nodes_of_number lines number = map (node_of_line lines number) (filter_map (node
 -- the nodes in ascending number
 abbrev pub nodes_of : List ParsedLine → List NodeLine
 nodes_of lines = flat_map (nodes_of_number lines) (range_with_len 0 most_nodes)
+
+-- the act of an offer with that number
+abbrev pub offer_act : ℕ × (ℕ × ℕ × List ℕ) → Act
+offer_act offer = record { tick = offer.1.0; deed = Offer offer.0 offer.1.1 offer.1.2 }
+
+-- the offers of all lines, numbered from 1 in line order
+abbrev pub acts_of : List ParsedLine → List Act
+acts_of lines = map offer_act (enumerate_from 1 (filter_map offer_from lines))
 
 -- the script that these lines give, with that `end`
 abbrev pub script_from : List ParsedLine → ℕ → Script
@@ -50,6 +66,7 @@ script_from lines last = record {
   room = setting_of Room lines;
   seed = first_given seed_from lines 1;
   nodes = nodes_of lines;
+  acts = acts_of lines;
   end = last;
 }
 

@@ -1,9 +1,19 @@
 -- Valid scripts.
-use Rattle.std.specs.Prelude.{◌≤◌, length, map, All}
-use Rattle.std.specs.List.Sorted.{IsStrictlyIncreasing}
+use Rattle.std.specs.Prelude.{ℕ, ◌<◌, ◌≤◌, ⊤, List, length, map, filter_map, Option, Some, None, All, Contains}
+use Rattle.std.specs.List.Sorted.{IsNonDecreasing, IsStrictlyIncreasing}
 use Rattle.t1s_base.specs.Limits.{most_nodes, last_node, most_ticks}
+use Rattle.t1s_frame.specs.Frame.{IsFrame}
+use Rattle.t1s_script.specs.Limits.{most_acts, most_draws, last_draw}
 use Rattle.t1s_script.specs.declared.script.Script.{Script}
+use Rattle.t1s_script.specs.declared.script.Act.{Act}
+use Rattle.t1s_script.specs.declared.script.Deed.{Deed}
+use Rattle.t1s_script.specs.declared.script.Deed.TheVariants.{Offer, Noise}
 use Rattle.t1s_script.specs.declared.script.NodeLine.{NodeLine}
+
+-- the draws that are listed for a node, if any are
+abbrev pub AreDraws : Option (List ℕ) → Type 0
+AreDraws (Some draws) = (length draws ≤ most_draws) × All (λ draw. draw ≤ last_draw) draws
+AreDraws None = ⊤
 
 -- the numbers of a node are in their ranges
 pub record IsNodeLine (n : NodeLine) : Type 0 where
@@ -13,8 +23,31 @@ pub record IsNodeLine (n : NodeLine) : Type 0 where
   pub to_low : 16 ≤ n.to
   pub to_high : n.to ≤ 255
   pub start_high : n.start ≤ most_ticks
+  pub draws : AreDraws n.draws
 
--- all numbers are in their ranges, and one to `most_nodes` nodes stand in strictly ascending number
+abbrev pub numbers_of : List NodeLine → List ℕ
+numbers_of nodes = map (λ (n : NodeLine). n.no) nodes
+
+-- what is done at a tick: a frame is offered to one of these nodes, or a noise begins that ends later
+abbrev pub IsDeed : List ℕ → ℕ → Deed → Type 0
+IsDeed numbers tick (Offer number node frame) = (1 ≤ number) × (number ≤ most_acts) × Contains numbers node × IsFrame frame
+IsDeed numbers tick (Noise until) = (tick < until) × (until ≤ most_ticks)
+
+-- an act before the end
+pub record IsAct (numbers : List ℕ) (end : ℕ) (a : Act) : Type 0 where
+  pub before_end : a.tick < end
+  pub deed : IsDeed numbers a.tick a.deed
+
+-- the number of an offer
+abbrev pub number_in : Deed → Option ℕ
+number_in (Offer number node frame) = Some number
+number_in (Noise until) = None
+
+abbrev pub offer_number : Act → Option ℕ
+offer_number a = number_in a.deed
+
+-- all numbers are in their ranges; one to `most_nodes` nodes stand in strictly ascending number; at most `most_acts`
+-- acts stand in the order of their ticks, and the numbers of the offers among them ascend strictly
 pub record IsScript (s : Script) : Type 0 where
   pub count_low : 1 ≤ s.count
   pub count_high : s.count ≤ 254
@@ -30,7 +63,11 @@ pub record IsScript (s : Script) : Type 0 where
   pub seed_high : s.seed ≤ 4294967295
   pub some_node : 1 ≤ length s.nodes
   pub most_nodes : length s.nodes ≤ most_nodes
-  pub ascending : IsStrictlyIncreasing (map (λ (n : NodeLine). n.no) s.nodes)
+  pub ascending : IsStrictlyIncreasing (numbers_of s.nodes)
   pub nodes : All IsNodeLine s.nodes
   pub end_low : 1 ≤ s.end
   pub end_high : s.end ≤ most_ticks
+  pub few_acts : length s.acts ≤ most_acts
+  pub acts_in_order : IsNonDecreasing (map (λ (a : Act). a.tick) s.acts)
+  pub offers_in_order : IsStrictlyIncreasing (filter_map offer_number s.acts)
+  pub acts : All (IsAct (numbers_of s.nodes) s.end) s.acts

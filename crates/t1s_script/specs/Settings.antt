@@ -1,5 +1,6 @@
 -- The numbers that hold for a whole script: their ranges and defaults.
 use Rattle.std.specs.Prelude.{ℕ}
+use Rattle.t1s_script.specs.declared.words.Range.{Range}
 use Rattle.t1s_script.specs.declared.words.Setting.{Setting}
 use Rattle.t1s_script.specs.declared.words.Setting.TheVariants.{Count, To, Rise, Fall, Burst, Room}
 
@@ -20,6 +21,10 @@ highest Rise = 16
 highest Fall = 16
 highest Burst = 255
 highest Room = 64
+
+-- the numbers that it takes
+abbrev pub setting_range : Setting → Range
+setting_range w = record { least = lowest w; greatest = highest w }
 
 -- the number that it has where no line gives one
 abbrev pub default_of : Setting → ℕ

@@ -1,6 +1,6 @@
 -- The thin form: the line `t1s 1`, the line `count N`, one to sixteen lines `node NO ID PLACE` in strictly
 -- ascending number, the line `end T`, and no line after it.
-use Rattle.std.specs.Prelude.{ℕ, ◌+◌, ◌≡◌, ◌&&◌, Bool, true, false, List, [], ◌∷◌, map, nat_le, length, codes, Ok, All}
+use Rattle.std.specs.Prelude.{ℕ, ◌+◌, ◌≡◌, ◌&&◌, Bool, true, false, List, [], ◌∷◌, map, nat_le, length, codes, Ok, None, All}
 use Rattle.std.specs.Str.{bytes_eq}
 use Rattle.t1s_script.specs.Lines.{lines_of}
 use Rattle.t1s_script.specs.ParsedLine.{ParsedLine, parsed_line}
@@ -34,10 +34,11 @@ have_thin_form (first ∷ lines) = bytes_eq first (codes "t1s 1") && are_thin (m
 abbrev pub has_thin_form : List ℕ → Bool
 has_thin_form octets = nat_le (length octets) 1048576 && have_thin_form (lines_of octets)
 
--- a node with the default timer that starts at once
+-- a node with the default timer that starts at once and has no list of draws
 pub record IsThinNode (n : NodeLine) : Type 0 where
   pub to : n.to ≡ 32
   pub start : n.start ≡ 0
+  pub draws : n.draws ≡ None
 
 -- all that the thin form doesn't name has its default
 pub record IsThinScript (s : Script) : Type 0 where
@@ -48,6 +49,7 @@ pub record IsThinScript (s : Script) : Type 0 where
   pub room : s.room ≡ 8
   pub seed : s.seed ≡ 1
   pub nodes : All IsThinNode s.nodes
+  pub acts : s.acts ≡ []
 
 -- octets of the thin form are read as such a script
 abbrev pub ThinScriptsHaveDefaults : Type 0

@@ -1,11 +1,11 @@
 -- What the lines of a script give: the numbers of each word.
-use Rattle.std.specs.Prelude.{ℕ, ◌==◌, Bool, true, false, List, filter_map, slice_index_or, is_some, Option, Some, None, Ok, if◌then◌else◌}
+use Rattle.std.specs.Prelude.{ℕ, max, [], ◌∷◌, ◌==◌, Bool, true, false, List, filter_map, slice_index_or, is_some, Option, Some, None, Ok, if◌then◌else◌}
 use Rattle.std.specs.List.{list_any}
 use Rattle.t1s_script.specs.Settings.{default_of}
 use Rattle.t1s_script.specs.ParsedLine.{ParsedLine}
 use Rattle.t1s_script.specs.declared.words.Setting.{Setting}
 use Rattle.t1s_script.specs.declared.words.Setting.TheVariants.{Count, To, Rise, Fall, Burst, Room}
-use Rattle.t1s_script.specs.declared.words.ScriptLine.TheVariants.{Set, Seed, Node, Late, End}
+use Rattle.t1s_script.specs.declared.words.ScriptLine.TheVariants.{Set, Seed, Node, Late, Draw, Offer, End}
 
 -- ---- one line
 
@@ -38,6 +38,21 @@ abbrev pub start_for : ℕ → ParsedLine → Option ℕ
 start_for number (Ok (Late other start)) = if other == number then Some start else None
 start_for number _ = None
 
+-- the draw of a `draw` line of that number
+abbrev pub draw_for : ℕ → ParsedLine → Option ℕ
+draw_for number (Ok (Draw other draw)) = if other == number then Some draw else None
+draw_for number _ = None
+
+-- the tick, the node and the frame of a line that offers one
+abbrev pub offer_from : ParsedLine → Option (ℕ × ℕ × List ℕ)
+offer_from (Ok (Offer tick number frame)) = Some (tick, number, frame)
+offer_from _ = None
+
+-- the tick of a timed line
+abbrev pub tick_from : ParsedLine → Option ℕ
+tick_from (Ok (Offer tick number frame)) = Some tick
+tick_from _ = None
+
 -- the number of ticks of an `end` line
 abbrev pub end_from : ParsedLine → Option ℕ
 end_from (Ok (End last)) = Some last
@@ -60,3 +75,12 @@ first_given value lines otherwise = slice_index_or (filter_map value lines) 0 ot
 -- the number that holds for the whole script
 abbrev pub setting_of : Setting → List ParsedLine → ℕ
 setting_of w lines = first_given (number_for w) lines (default_of w)
+
+-- the greatest of these numbers; 0 where there is none
+abbrev pub greatest : List ℕ → ℕ
+greatest [] = 0
+greatest (n ∷ ns) = max n (greatest ns)
+
+-- the greatest tick of a timed line
+abbrev pub latest_tick : List ParsedLine → ℕ
+latest_tick lines = greatest (filter_map tick_from lines)

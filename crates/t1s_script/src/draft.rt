@@ -3,17 +3,25 @@ ghost use Rattle.std.specs.Prelude.{◌≡◌, ◌≤◌, Ok, Err, IfOk, MatchRe
 ghost use Rattle.std.specs.List.{list_any};
 ghost use Rattle.std.specs.Result.{ForOk};
 ghost use Rattle.t1s_base.specs.Limits.{last_node};
-ghost use Rattle.t1s_script.specs.Draft.{draft_after, draft_start, end_after, given, late_after, line_after, no_settings, node_after, nodes_from, script_with, seed_after, set_after, slot_at, value_in, with_given, with_slot};
+ghost use Rattle.t1s_script.specs.Draft.{IsTaken, draft_after, draft_start, draw_after, end_after, given, late_after, line_after, no_settings, node_after, node_of, nodes_from, offer_after, script_with, seed_after, set_after, slot_at, value_in, with_given, with_slot};
 ghost use Rattle.t1s_script.specs.Ranges.{HasSlot};
 
-use crate::refusals::ScriptReason;
-use crate::script::{NodeLine, NodeList, Script};
+use crate::refusals::{LineFault, ScriptReason};
+use crate::script::{Act, ActList, Deed, DrawList, NodeLine, NodeList, Script};
 use crate::words::{ScriptLine, Setting};
 use std::alloc::{AllocError, Global};
+use std::array;
 use t1s_base::MOST_NODES;
+use t1s_frame::Frame;
 
 /// A slot for each node that a segment may have.
 const SLOTS: usize = MOST_NODES as usize;
+
+/// The most timed lines of a script.
+const MOST_ACTS: usize = 4096;
+
+/// The most draws that a script lists for a node.
+const MOST_DRAWS: usize = 64;
 
 /// The seed where no line gives one.
 const DEFAULT_SEED: u64 = 1;
@@ -81,52 +89,69 @@ impl Settings {
 }
 
 /// What stood for the node of one number.
-#[derive(Clone, Copy)]
+#[derive(Drop)]
 pub struct Slot {
     pub id: u8,
     pub place: u8,
     /// The tick of its `late` line.
     pub start: Option<u64>,
+    /// The draws of its `draw` lines.
+    pub draws: DrawList,
+}
+
+impl Slot {
+    /// The node of this slot, with that number and that timer.
+    fn node(self, no: u8, to: u8) -> NodeLine
+        ensures { result ≡ node_of to no self }
+    {
+        let is_listed = !self.draws.as_slice().is_empty();
+        NodeLine {
+            no,
+            id: self.id,
+            place: self.place,
+            to,
+            start: self.start.unwrap_or(0),
+            draws: is_listed.then_some(self.draws),
+        }
+    }
 }
 
 /// What the lines so far say.
-#[derive(Clone, Copy)]
+#[derive(Drop)]
 pub struct Draft {
     pub settings: Settings,
     pub seed: Option<u64>,
     /// By the number of the node.
     pub slots: [Option<Slot>; SLOTS],
+    /// The acts of the timed lines.
+    pub acts: ActList,
+    /// The tick of the last timed line.
+    pub latest: u64,
     /// The number of ticks of the run, once `end` stood.
     pub end: Option<u64>,
 }
 
 impl Draft {
     /// No line stood yet.
-    pub fn start() -> Draft
+    pub fn start(alloc: Global) -> Draft
         ensures { result ≡ draft_start }
     {
         Draft {
             settings: Settings::none(),
             seed: None,
-            slots: [None; SLOTS],
+            slots: array::from_fn(|_| None),
+            acts: ActList::none(alloc),
+            latest: 0,
             end: None,
         }
     }
 
-    /// What stood for the node of that number.
-    fn slot(&self, no: u8) -> Option<Slot>
+    /// Whether the `node` line of that number stood.
+    fn knows(&self, no: u8) -> bool
         requires { no ≤ last_node }
-        ensures { result ≡ slot_at self.now no }
+        ensures { result ≡ is_some (slot_at self.now no) }
     {
-        self.slots[usize::from(no)]
-    }
-
-    /// Puts what stands for the node of that number.
-    fn put(&mut self, no: u8, slot: Slot)
-        requires { no ≤ last_node }
-        ensures { self.new ≡ with_slot self.old no slot }
-    {
-        self.slots[usize::from(no)] = Some(slot);
+        self.slots[usize::from(no)].is_some()
     }
 
     /// Whether a `node` line stood.
@@ -159,21 +184,19 @@ impl Draft {
     }
 
     /// A `node` line.
-    fn take_node(&mut self, no: u8, id: u8, place: u8) -> Result<(), ScriptReason>
+    fn take_node(&mut self, alloc: Global, no: u8, id: u8, place: u8) -> Result<(), ScriptReason>
         requires { no ≤ last_node }
         ensures { MatchResult result (λ _. node_after self.old no id place ≡ Ok self.new) (λ reason. node_after self.old no id place ≡ Err reason) }
     {
-        if self.slot(no).is_some() {
+        if self.knows(no) {
             return Err(ScriptReason::Twice);
         }
-        self.put(
-            no,
-            Slot {
-                id,
-                place,
-                start: None,
-            },
-        );
+        self.slots[usize::from(no)] = Some(Slot {
+            id,
+            place,
+            start: None,
+            draws: DrawList::none(alloc),
+        });
         Ok(())
     }
 
@@ -182,17 +205,52 @@ impl Draft {
         requires { no ≤ last_node }
         ensures { MatchResult result (λ _. late_after self.old no start ≡ Ok self.new) (λ reason. late_after self.old no start ≡ Err reason) }
     {
-        let slot = self.slot(no).ok_or(ScriptReason::UnknownNode)?;
-        if slot.start.is_some() {
-            return Err(ScriptReason::Twice);
+        match &mut self.slots[usize::from(no)] {
+            None => Err(ScriptReason::UnknownNode),
+            Some(slot) if slot.start.is_some() => Err(ScriptReason::Twice),
+            Some(slot) => {
+                slot.start = Some(start);
+                Ok(())
+            }
         }
-        self.put(
-            no,
-            Slot {
-                start: Some(start),
-                ..slot
-            },
-        );
+    }
+
+    /// A `draw` line.
+    fn take_draw(&mut self, no: u8, draw: u16) -> Result<(), LineFault>
+        requires { no ≤ last_node }
+        ensures { IsTaken (draw_after self.old no draw) result self.new }
+    {
+        match &mut self.slots[usize::from(no)] {
+            None => Err(LineFault::Reason(ScriptReason::UnknownNode)),
+            Some(slot) if slot.draws.as_slice().len() >= MOST_DRAWS => {
+                Err(LineFault::Reason(ScriptReason::TooMany))
+            }
+            Some(slot) => Ok(slot.draws.push(draw)?),
+        }
+    }
+
+    /// An `offer` or a `fill` line.
+    fn take_offer(&mut self, tick: u64, no: u8, frame: Frame) -> Result<(), LineFault>
+        requires { no ≤ last_node }
+        ensures { IsTaken (offer_after self.old tick no frame) result self.new }
+    {
+        if !self.knows(no) {
+            return Err(LineFault::Reason(ScriptReason::UnknownNode));
+        }
+        if tick < self.latest {
+            return Err(LineFault::Reason(ScriptReason::Order));
+        }
+        let stood = self.acts.as_slice().len();
+        if stood >= MOST_ACTS {
+            return Err(LineFault::Reason(ScriptReason::TooMany));
+        }
+        let deed = Deed::Offer {
+            number: 1 + stood as u16,
+            node: no,
+            frame,
+        };
+        self.acts.push(Act { tick, deed })?;
+        self.latest = tick;
         Ok(())
     }
 
@@ -200,6 +258,9 @@ impl Draft {
     fn take_end(&mut self, end: u64) -> Result<(), ScriptReason>
         ensures { MatchResult result (λ _. end_after self.old end ≡ Ok self.new) (λ reason. end_after self.old end ≡ Err reason) }
     {
+        if end <= self.latest {
+            return Err(ScriptReason::Order);
+        }
         if !self.has_node() {
             return Err(ScriptReason::NoNode);
         }
@@ -208,56 +269,43 @@ impl Draft {
     }
 
     /// A line that isn't refused by itself.
-    fn take_line(&mut self, line: ScriptLine) -> Result<(), ScriptReason>
+    fn take_line(&mut self, alloc: Global, line: ScriptLine) -> Result<(), LineFault>
         requires { HasSlot line }
-        ensures { MatchResult result (λ _. line_after self.old line ≡ Ok self.new) (λ reason. line_after self.old line ≡ Err reason) }
+        ensures { IsTaken (line_after self.old line) result self.new }
     {
         match line {
             ScriptLine::Skipped => Ok(()),
-            ScriptLine::Set(setting, number) => self.take_setting(setting, number),
-            ScriptLine::Seed(seed) => self.take_seed(seed),
-            ScriptLine::Node { no, id, place } => self.take_node(no, id, place),
-            ScriptLine::Late { no, start } => self.take_late(no, start),
-            ScriptLine::End(end) => self.take_end(end),
+            ScriptLine::Set(setting, number) => Ok(self.take_setting(setting, number)?),
+            ScriptLine::Seed(seed) => Ok(self.take_seed(seed)?),
+            ScriptLine::Node { no, id, place } => Ok(self.take_node(alloc, no, id, place)?),
+            ScriptLine::Late { no, start } => Ok(self.take_late(no, start)?),
+            ScriptLine::Draw { no, draw } => self.take_draw(no, draw),
+            ScriptLine::Offer { tick, no, frame } => self.take_offer(tick, no, frame),
+            ScriptLine::End(end) => Ok(self.take_end(end)?),
         }
     }
 
     /// Any line after the first, by what it says by itself.
-    pub fn take(&mut self, line: Result<ScriptLine, ScriptReason>) -> Result<(), ScriptReason>
+    pub fn take(
+        &mut self,
+        alloc: Global,
+        line: Result<ScriptLine, ScriptReason>,
+    ) -> Result<(), LineFault>
         requires { ForOk line HasSlot }
-        ensures { MatchResult result (λ _. draft_after self.old line ≡ Ok self.new) (λ reason. draft_after self.old line ≡ Err reason) }
+        ensures { IsTaken (draft_after self.old line) result self.new }
     {
-        if line == Ok(ScriptLine::Skipped) {
+        if matches!(&line, Ok(ScriptLine::Skipped)) {
             return Ok(());
         }
         if self.end.is_some() {
-            return Err(ScriptReason::AfterEnd);
+            return Err(LineFault::Reason(ScriptReason::AfterEnd));
         }
-        self.take_line(line?)
-    }
-
-    /// The nodes in ascending number.
-    fn nodes(&self, alloc: Global, to: u8) -> Result<Vec<NodeLine>, AllocError>
-        ensures { IfOk result (λ nodes. nodes.items ≡ nodes_from to 0 self.now.slots) }
-    {
-        let mut nodes = Vec::new(alloc);
-        for no in 0..SLOTS {
-            if let Some(slot) = self.slots[no] {
-                nodes.push(NodeLine {
-                    no: no as u8,
-                    id: slot.id,
-                    place: slot.place,
-                    to,
-                    start: slot.start.unwrap_or(0),
-                })?;
-            }
-        }
-        Ok(nodes)
+        self.take_line(alloc, line?)
     }
 
     /// The script of these lines, with that end.
-    pub fn script(&self, alloc: Global, end: u64) -> Result<Script, AllocError>
-        ensures { IfOk result (λ script. script ≡ script_with self.now end) }
+    pub fn script(self, alloc: Global, end: u64) -> Result<Script, AllocError>
+        ensures { IfOk result (λ script. script ≡ script_with self end) }
     {
         let to = self.settings.value(Setting::To);
         Ok(Script {
@@ -268,8 +316,28 @@ impl Draft {
             burst: self.settings.value(Setting::Burst),
             room: self.settings.value(Setting::Room),
             seed: self.seed.unwrap_or(DEFAULT_SEED),
-            nodes: NodeList::of(self.nodes(alloc, to)?),
+            nodes: NodeList::of(nodes_in(alloc, to, self.slots)?),
+            acts: self.acts,
             end,
         })
     }
+}
+
+/// The nodes of these slots in ascending number, with that timer.
+fn nodes_in(
+    alloc: Global,
+    to: u8,
+    slots: [Option<Slot>; SLOTS],
+) -> Result<Vec<NodeLine>, AllocError>
+    ensures { IfOk result (λ nodes. nodes.items ≡ nodes_from to 0 slots) }
+{
+    let mut nodes = Vec::new(alloc);
+    let mut no = 0;
+    for slot in slots {
+        if let Some(slot) = slot {
+            nodes.push(slot.node(no, to))?;
+        }
+        no += 1;
+    }
+    Ok(nodes)
 }

@@ -1,9 +1,9 @@
 //! Which scripts are fit, how wide a segment is, and the number that is written as the bound of a start.
-ghost use Rattle.std.specs.Prelude.{◌≡◌, ◌≤◌, ◌↔◌, ◌==◌, Err, IsOk, find, nat_le, not};
+ghost use Rattle.std.specs.Prelude.{◌≡◌, ◌≤◌, ◌↔◌, ◌==◌, Err, IsOk, find, nat_le, not, option_map};
 ghost use Rattle.t1s_script.specs.declared.script.NodeLine.{NodeLine};
-ghost use Rattle.t1s_script.specs.Fit.{IsFit, farthest, fitness_of, longest_opportunity, span_of, start_bound, unmet, with_high_id, with_long_bursts, with_long_cable, with_other_timer, with_repeat, without_one_coordinator};
+ghost use Rattle.t1s_script.specs.Fit.{IsFit, farthest, fitness_of, longest_opportunity, span_of, start_bound, unmet, with_high_id, with_long_bursts, with_long_cable, with_noise, with_other_timer, with_repeat, without_one_coordinator};
 
-use crate::script::{NodeLine, Script};
+use crate::script::{Act, Deed, NodeLine, Script};
 
 /// What the bound counts for a frame of a drive, in ticks.
 const LONGEST_FRAME: u64 = 12_384;
@@ -24,14 +24,15 @@ const FIT_BURST: u8 = 15;
 #[derive(Clone, Copy, PartialEq, Eq, Debug)]
 pub struct Unfit {
     /// 1: exactly one node has the ID 0. 2: the IDs are distinct. 3: each ID is below the count. 4: each
-    /// node has the timer of the script. 6: at most 15 further frames in an opportunity. 7: twice the
+    /// node has the timer of the script. 5: there is no noise. 6: at most 15 further frames in an opportunity. 7: twice the
     /// span and `rise` together are below `to`.
     pub premise: u8,
     /// What is there: 1 the number of nodes with the ID 0, 2 the number of the first node whose ID stood
-    /// before, 3 the first such ID, 4 the first such timer, 6 `burst`, 7 the sum.
+    /// before, 3 the first such ID, 4 the first such timer, 5 the tick at which the first noise begins,
+    /// 6 `burst`, 7 the sum.
     pub left: u64,
     /// What it is held against: 1 the number 1, 2 the number of the first node with that ID, 3 the count,
-    /// 4 `to`, 6 the number 15, 7 `to`.
+    /// 4 `to`, 5 the end of that noise, 6 the number 15, 7 `to`.
     pub right: u64,
 }
 
@@ -109,11 +110,11 @@ fn one_coordinator(nodes: &[NodeLine]) -> Result<(), Unfit>
     }
 }
 
-/// The first of the nodes with that ID.
-fn node_with_id(nodes: &[NodeLine], id: u8) -> Option<NodeLine>
-    ensures { result ≡ find (λ (n : NodeLine). n.id == id) nodes.now }
+/// The number of the first of the nodes with that ID.
+fn number_with_id(nodes: &[NodeLine], id: u8) -> Option<u8>
+    ensures { result ≡ option_map (λ (n : NodeLine). n.no) (find (λ (n : NodeLine). n.id == id) nodes.now) }
 {
-    nodes.iter().copied().find(|node| node.id == id)
+    nodes.iter().find(|node| node.id == id).map(|node| node.no)
 }
 
 /// Premise 2: the IDs are distinct.
@@ -121,46 +122,61 @@ fn distinct_ids(nodes: &[NodeLine]) -> Result<(), Unfit>
     ensures { result ≡ fitness_of (with_repeat nodes.now) }
 {
     for i in 0..nodes.len() {
-        let node = nodes[i];
-        if let Some(earlier) = node_with_id(&nodes[..i], node.id) {
-            return unmet_premise(2, wide(node.no), wide(earlier.no));
+        let node = &nodes[i];
+        if let Some(earlier) = number_with_id(&nodes[..i], node.id) {
+            return unmet_premise(2, wide(node.no), wide(earlier));
         }
     }
     Ok(())
 }
 
-/// The first of the nodes whose ID isn't below the count.
-fn node_with_high_id(nodes: &[NodeLine], count: u8) -> Option<NodeLine>
-    ensures { result ≡ find (λ (n : NodeLine). nat_le count n.id) nodes.now }
+/// The first ID of the nodes that isn't below the count.
+fn high_id(nodes: &[NodeLine], count: u8) -> Option<u8>
+    ensures { result ≡ option_map (λ (n : NodeLine). n.id) (find (λ (n : NodeLine). nat_le count n.id) nodes.now) }
 {
-    nodes.iter().copied().find(|node| count <= node.id)
+    nodes
+        .iter()
+        .find(|node| count <= node.id)
+        .map(|node| node.id)
 }
 
 /// Premise 3: each ID is below the count.
 fn low_ids(nodes: &[NodeLine], count: u8) -> Result<(), Unfit>
     ensures { result ≡ fitness_of (with_high_id count nodes.now) }
 {
-    match node_with_high_id(nodes, count) {
-        Some(node) => unmet_premise(3, wide(node.id), wide(count)),
+    match high_id(nodes, count) {
+        Some(id) => unmet_premise(3, wide(id), wide(count)),
         None => Ok(()),
     }
 }
 
-/// The first of the nodes with another timer.
-fn node_with_other_timer(nodes: &[NodeLine], to: u8) -> Option<NodeLine>
-    ensures { result ≡ find (λ (n : NodeLine). not (n.to == to)) nodes.now }
+/// The first other timer of the nodes.
+fn other_timer(nodes: &[NodeLine], to: u8) -> Option<u8>
+    ensures { result ≡ option_map (λ (n : NodeLine). n.to) (find (λ (n : NodeLine). not (n.to == to)) nodes.now) }
 {
-    nodes.iter().copied().find(|node| node.to != to)
+    nodes.iter().find(|node| node.to != to).map(|node| node.to)
 }
 
 /// Premise 4: each node has the timer of the script.
 fn one_timer(nodes: &[NodeLine], to: u8) -> Result<(), Unfit>
     ensures { result ≡ fitness_of (with_other_timer to nodes.now) }
 {
-    match node_with_other_timer(nodes, to) {
-        Some(node) => unmet_premise(4, wide(node.to), wide(to)),
+    match other_timer(nodes, to) {
+        Some(other) => unmet_premise(4, wide(other), wide(to)),
         None => Ok(()),
     }
+}
+
+/// Premise 5: there is no noise.
+fn no_noise(acts: &[Act]) -> Result<(), Unfit>
+    ensures { result ≡ fitness_of (with_noise acts.now) }
+{
+    for act in acts {
+        if let Deed::Noise { until } = &act.deed {
+            return unmet_premise(5, act.tick, *until);
+        }
+    }
+    Ok(())
 }
 
 /// Premise 6: an opportunity has at most 15 further frames.
@@ -197,6 +213,7 @@ pub fn fit(s: &Script) -> Result<(), Unfit>
     distinct_ids(nodes)?;
     low_ids(nodes, s.count)?;
     one_timer(nodes, s.to)?;
+    no_noise(s.acts.as_slice())?;
     short_bursts(s.burst)?;
     short_cable(s)
 }

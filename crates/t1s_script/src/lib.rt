@@ -3,12 +3,14 @@
 //! The layer above uses that `read_script` answers what the definition gives, and that the script of an
 //! `Ok` is valid (`IsScript` in `specs/Script.antt`). The definition, `script_of` in `specs/Reading.antt`,
 //! speaks of the list of all lines; what a line says by itself stands in `specs/ParsedLine.antt`, and the rules
-//! that it can break in the light of the lines before it in `specs/Rules.antt`. `specs/Draft.antt` is only
-//! what the code keeps while it reads. Fit scripts, the span and the bound stand in `specs/Fit.antt`.
+//! that it can break in the light of the lines before it in `specs/Rules.antt`. The frames that lines offer
+//! stand in `specs/FrameTexts.antt`. `specs/Draft.antt` is only what the code keeps while it reads. Fit
+//! scripts, the span and the bound stand in `specs/Fit.antt`.
 #![tactic(auto)]
 
 mod draft;
 mod fitness;
+mod frame_texts;
 pub mod laws;
 mod parsing;
 mod reading;
@@ -20,7 +22,9 @@ mod words;
 pub use fitness::{Unfit, bound, fit, span};
 pub use reading::read_script;
 pub use refusals::{ScriptFault, ScriptReason, ScriptRefusal};
-pub use script::{NodeLine, NodeList, Script};
+pub use script::{Act, ActList, Deed, DrawList, NodeLine, NodeList, Script};
 
+#[cfg(test)]
+mod frame_tests;
 #[cfg(test)]
 mod tests;

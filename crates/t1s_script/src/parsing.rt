@@ -1,169 +1,223 @@
 // How one line is parsed, by itself.
 ghost use Rattle.std.specs.Prelude.{◌≡◌, ◌≤◌, IfOk};
-ghost use Rattle.t1s_base.specs.Numbers.{number_of};
-ghost use Rattle.t1s_script.specs.ParsedLine.{end_in, end_line, late_in, late_line, node_in, node_line, parsed_line, line_by_word, line_in, is_skipped, seed_in, seed_line, setting_in, setting_line, sole_number};
+ghost use Rattle.t1s_script.specs.ParsedLine.{fill_in, is_skipped, line_by_word, line_in, offer_in, one_number, parsed_line, three_numbers, three_within, two_numbers, two_within};
 ghost use Rattle.t1s_script.specs.Lines.{fields_of};
 ghost use Rattle.t1s_script.specs.Ranges.{HasSlot};
 
+use crate::frame_texts::{fill_frame, hex_frame};
 use crate::refusals::ScriptReason;
 use crate::text::Fields;
-use crate::words::{ScriptLine, Setting, Word, word_in};
+use crate::words::{Range, ScriptLine, Word, word_in};
 use t1s_base::{LAST_NODE, MOST_TICKS, read_number};
 
 const COMMENT: u8 = b'#';
 
-/// The greatest ID, and the greatest place.
-const LAST_OCTET: u64 = 255;
+/// The numbers of nodes.
+const NODES: Range = Range {
+    least: 0,
+    greatest: LAST_NODE as u64,
+};
 
-const LAST_SEED: u64 = 4_294_967_295;
+/// IDs, and places.
+const OCTETS: Range = Range {
+    least: 0,
+    greatest: 255,
+};
 
-/// What a setting's number says.
-fn parse_setting(setting: Setting, number: Option<u64>) -> Result<ScriptLine, ScriptReason>
-    ensures { result ≡ setting_line setting number }
+const TICKS: Range = Range {
+    least: 0,
+    greatest: MOST_TICKS,
+};
+
+const DRAWS: Range = Range {
+    least: 0,
+    greatest: 1023,
+};
+
+const SEEDS: Range = Range {
+    least: 0,
+    greatest: 4_294_967_295,
+};
+
+const ENDS: Range = Range {
+    least: 1,
+    greatest: MOST_TICKS,
+};
+
+/// All numbers that are read.
+const NUMBERS: Range = Range {
+    least: 0,
+    greatest: 9_999_999_999,
+};
+
+/// Two numbers in their ranges.
+fn two_within(
+    ranges: (Range, Range),
+    first: Option<u64>,
+    second: Option<u64>,
+) -> Result<(u64, u64), ScriptReason>
+    ensures value { result ≡ two_within ranges.0 ranges.1 first second }
+    ensures high { IfOk result (λ numbers. (numbers.0 ≤ ranges.0.greatest) × (numbers.1 ≤ ranges.1.greatest)) }
 {
-    let number = number.ok_or(ScriptReason::Number)?;
-    if u64::from(setting.lowest()) <= number && number <= u64::from(setting.highest()) {
-        Ok(ScriptLine::Set(setting, number as u8))
+    let first = first.ok_or(ScriptReason::Number)?;
+    let second = second.ok_or(ScriptReason::Number)?;
+    if ranges.0.has(first) && ranges.1.has(second) {
+        Ok((first, second))
     } else {
         Err(ScriptReason::OutOfRange)
     }
 }
 
-/// What a seed says.
-fn parse_seed(number: Option<u64>) -> Result<ScriptLine, ScriptReason>
-    ensures { result ≡ seed_line number }
+/// Three numbers in their ranges.
+fn three_within(
+    ranges: (Range, Range, Range),
+    first: Option<u64>,
+    second: Option<u64>,
+    third: Option<u64>,
+) -> Result<(u64, u64, u64), ScriptReason>
+    ensures value { result ≡ three_within ranges.0 ranges.1 ranges.2 first second third }
+    ensures high { IfOk result (λ numbers. (numbers.0 ≤ ranges.0.greatest) × (numbers.1 ≤ ranges.1.greatest) × (numbers.2 ≤ ranges.2.greatest)) }
 {
-    let number = number.ok_or(ScriptReason::Number)?;
-    if number <= LAST_SEED {
-        Ok(ScriptLine::Seed(number))
+    let first = first.ok_or(ScriptReason::Number)?;
+    let second = second.ok_or(ScriptReason::Number)?;
+    let third = third.ok_or(ScriptReason::Number)?;
+    if ranges.0.has(first) && ranges.1.has(second) && ranges.2.has(third) {
+        Ok((first, second, third))
     } else {
         Err(ScriptReason::OutOfRange)
     }
 }
 
-/// What the numbers of a node say.
-fn parse_node(
-    no: Option<u64>,
-    id: Option<u64>,
-    place: Option<u64>,
-) -> Result<ScriptLine, ScriptReason>
-    ensures value { result ≡ node_line no id place }
-    ensures slot { IfOk result HasSlot }
+/// The number of a line with one number.
+fn one_number(range: Range, mut fields: Fields<'_>) -> Result<u64, ScriptReason>
+    ensures value { result ≡ one_number range fields.entry }
+    ensures high { IfOk result (λ number. number ≤ range.greatest) }
 {
-    let no = no.ok_or(ScriptReason::Number)?;
-    let id = id.ok_or(ScriptReason::Number)?;
-    let place = place.ok_or(ScriptReason::Number)?;
-    if no <= u64::from(LAST_NODE) && id <= LAST_OCTET && place <= LAST_OCTET {
-        Ok(ScriptLine::Node {
-            no: no as u8,
-            id: id as u8,
-            place: place as u8,
-        })
-    } else {
-        Err(ScriptReason::OutOfRange)
-    }
-}
-
-/// What the numbers of a start say.
-fn parse_late(no: Option<u64>, start: Option<u64>) -> Result<ScriptLine, ScriptReason>
-    ensures value { result ≡ late_line no start }
-    ensures slot { IfOk result HasSlot }
-{
-    let no = no.ok_or(ScriptReason::Number)?;
-    let start = start.ok_or(ScriptReason::Number)?;
-    if no <= u64::from(LAST_NODE) && start <= MOST_TICKS {
-        Ok(ScriptLine::Late {
-            no: no as u8,
-            start,
-        })
-    } else {
-        Err(ScriptReason::OutOfRange)
-    }
-}
-
-/// What an end says.
-fn parse_end(number: Option<u64>) -> Result<ScriptLine, ScriptReason>
-    ensures { result ≡ end_line number }
-{
-    let number = number.ok_or(ScriptReason::Number)?;
-    if 1 <= number && number <= MOST_TICKS {
-        Ok(ScriptLine::End(number))
-    } else {
-        Err(ScriptReason::OutOfRange)
-    }
-}
-
-/// The number of the only field, where one field is left.
-fn sole_number(mut fields: Fields<'_>) -> Result<Option<u64>, ScriptReason>
-    ensures { result ≡ sole_number fields.entry }
-{
-    let field = fields.next().ok_or(ScriptReason::Form)?;
+    let number = fields.next().ok_or(ScriptReason::Form)?;
     if fields.next().is_some() {
         return Err(ScriptReason::Form);
     }
-    Ok(read_number(field))
+    let number = read_number(number).ok_or(ScriptReason::Number)?;
+    if range.has(number) {
+        Ok(number)
+    } else {
+        Err(ScriptReason::OutOfRange)
+    }
 }
 
-/// What the fields after the word of a setting say.
-fn read_setting(setting: Setting, fields: Fields<'_>) -> Result<ScriptLine, ScriptReason>
-    ensures { result ≡ setting_in setting fields.entry }
+/// The numbers of a line with two numbers.
+fn two_numbers(ranges: (Range, Range), mut fields: Fields<'_>) -> Result<(u64, u64), ScriptReason>
+    ensures value { result ≡ two_numbers ranges.0 ranges.1 fields.entry }
+    ensures high { IfOk result (λ numbers. (numbers.0 ≤ ranges.0.greatest) × (numbers.1 ≤ ranges.1.greatest)) }
 {
-    parse_setting(setting, sole_number(fields)?)
+    let first = fields.next().ok_or(ScriptReason::Form)?;
+    let second = fields.next().ok_or(ScriptReason::Form)?;
+    if fields.next().is_some() {
+        return Err(ScriptReason::Form);
+    }
+    two_within(ranges, read_number(first), read_number(second))
 }
 
-/// What the fields after `seed` say.
-fn read_seed(fields: Fields<'_>) -> Result<ScriptLine, ScriptReason>
-    ensures { result ≡ seed_in fields.entry }
+/// The numbers of a line with three numbers.
+fn three_numbers(
+    ranges: (Range, Range, Range),
+    mut fields: Fields<'_>,
+) -> Result<(u64, u64, u64), ScriptReason>
+    ensures value { result ≡ three_numbers ranges.0 ranges.1 ranges.2 fields.entry }
+    ensures high { IfOk result (λ numbers. (numbers.0 ≤ ranges.0.greatest) × (numbers.1 ≤ ranges.1.greatest) × (numbers.2 ≤ ranges.2.greatest)) }
 {
-    parse_seed(sole_number(fields)?)
+    let first = fields.next().ok_or(ScriptReason::Form)?;
+    let second = fields.next().ok_or(ScriptReason::Form)?;
+    let third = fields.next().ok_or(ScriptReason::Form)?;
+    if fields.next().is_some() {
+        return Err(ScriptReason::Form);
+    }
+    three_within(
+        ranges,
+        read_number(first),
+        read_number(second),
+        read_number(third),
+    )
 }
 
-/// What the fields after `node` say.
-fn read_node(mut fields: Fields<'_>) -> Result<ScriptLine, ScriptReason>
-    ensures value { result ≡ node_in fields.entry }
+/// What the fields after `offer` say.
+fn read_offer(mut fields: Fields<'_>) -> Result<ScriptLine, ScriptReason>
+    ensures value { result ≡ offer_in fields.entry }
     ensures slot { IfOk result HasSlot }
 {
+    let tick = fields.next().ok_or(ScriptReason::Form)?;
     let no = fields.next().ok_or(ScriptReason::Form)?;
-    let id = fields.next().ok_or(ScriptReason::Form)?;
-    let place = fields.next().ok_or(ScriptReason::Form)?;
+    let octets = fields.next().ok_or(ScriptReason::Form)?;
     if fields.next().is_some() {
         return Err(ScriptReason::Form);
     }
-    parse_node(read_number(no), read_number(id), read_number(place))
+    let (tick, no) = two_within((TICKS, NODES), read_number(tick), read_number(no))?;
+    Ok(ScriptLine::Offer {
+        tick,
+        no: no as u8,
+        frame: hex_frame(octets)?,
+    })
 }
 
-/// What the fields after `late` say.
-fn read_late(mut fields: Fields<'_>) -> Result<ScriptLine, ScriptReason>
-    ensures value { result ≡ late_in fields.entry }
+/// What the fields after `fill` say.
+fn read_fill(mut fields: Fields<'_>) -> Result<ScriptLine, ScriptReason>
+    ensures value { result ≡ fill_in fields.entry }
     ensures slot { IfOk result HasSlot }
 {
+    let tick = fields.next().ok_or(ScriptReason::Form)?;
     let no = fields.next().ok_or(ScriptReason::Form)?;
-    let start = fields.next().ok_or(ScriptReason::Form)?;
+    let count = fields.next().ok_or(ScriptReason::Form)?;
+    let octet = fields.next().ok_or(ScriptReason::Form)?;
     if fields.next().is_some() {
         return Err(ScriptReason::Form);
     }
-    parse_late(read_number(no), read_number(start))
+    let (tick, no, count) = three_within(
+        (TICKS, NODES, NUMBERS),
+        read_number(tick),
+        read_number(no),
+        read_number(count),
+    )?;
+    Ok(ScriptLine::Offer {
+        tick,
+        no: no as u8,
+        frame: fill_frame(count, octet)?,
+    })
 }
 
-/// What the fields after `end` say.
-fn read_end(fields: Fields<'_>) -> Result<ScriptLine, ScriptReason>
-    ensures { result ≡ end_in fields.entry }
-{
-    parse_end(sole_number(fields)?)
-}
-
-/// What the fields after the word say.
+/// What the fields after the word say, a row for each word.
 fn read_fields(word: Option<Word>, fields: Fields<'_>) -> Result<ScriptLine, ScriptReason>
     ensures value { result ≡ line_by_word word fields.entry }
     ensures slot { IfOk result HasSlot }
 {
-    match word.ok_or(ScriptReason::UnknownWord)? {
-        Word::Set(setting) => read_setting(setting, fields),
-        Word::Seed => read_seed(fields),
-        Word::Node => read_node(fields),
-        Word::Late => read_late(fields),
-        Word::End => read_end(fields),
-    }
+    Ok(match word.ok_or(ScriptReason::UnknownWord)? {
+        Word::Set(setting) => ScriptLine::Set(setting, one_number(setting.range(), fields)? as u8),
+        Word::Seed => ScriptLine::Seed(one_number(SEEDS, fields)?),
+        Word::Node => {
+            let (no, id, place) = three_numbers((NODES, OCTETS, OCTETS), fields)?;
+            ScriptLine::Node {
+                no: no as u8,
+                id: id as u8,
+                place: place as u8,
+            }
+        }
+        Word::Late => {
+            let (no, start) = two_numbers((NODES, TICKS), fields)?;
+            ScriptLine::Late {
+                no: no as u8,
+                start,
+            }
+        }
+        Word::Draw => {
+            let (no, draw) = two_numbers((NODES, DRAWS), fields)?;
+            ScriptLine::Draw {
+                no: no as u8,
+                draw: draw as u16,
+            }
+        }
+        Word::Offer => read_offer(fields)?,
+        Word::Fill => read_fill(fields)?,
+        Word::End => ScriptLine::End(one_number(ENDS, fields)?),
+    })
 }
 
 /// What a line that isn't skipped says.

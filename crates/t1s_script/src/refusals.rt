@@ -21,10 +21,19 @@ pub enum ScriptReason {
     Number,
     /// A number is outside its range.
     OutOfRange,
+    /// A text of octets has an odd length or an octet that isn't a hex digit, or that of one octet isn't two
+    /// hex digits.
+    Hex,
+    /// A frame has fewer than 14 or more than 1518 octets.
+    FrameSize,
     /// A line that may stand once stands again.
     Twice,
     /// A line names a node that has no earlier `node` line.
     UnknownNode,
+    /// A timed tick is below the tick of an earlier timed line, or `end` isn't above the last timed tick.
+    Order,
+    /// More than 4096 timed lines, or more than 64 `draw` lines of a node.
+    TooMany,
     /// `end` comes and no `node` line stood before.
     NoNode,
     /// There is no `end` line. Its line is the number of lines plus 1.
@@ -38,6 +47,37 @@ pub struct ScriptRefusal {
     pub line: u32,
     /// What is wrong there.
     pub reason: ScriptReason,
+}
+
+/// Why a line isn't taken.
+#[derive(Drop)]
+pub enum LineFault {
+    /// It is refused.
+    Reason(ScriptReason),
+    /// Out of memory.
+    Memory(AllocError),
+}
+
+impl From<ScriptReason> for LineFault {
+    ghost use Rattle.std.specs.Prelude.{◌≡◌};
+    ghost use Rattle.t1s_script.specs.declared.refusals.LineFault.TheVariants.{Reason};
+
+    ghost from_gives = { λ reason fault. fault ≡ Reason reason };
+
+    fn from(reason: ScriptReason) -> LineFault {
+        LineFault::Reason(reason)
+    }
+}
+
+impl From<AllocError> for LineFault {
+    ghost use Rattle.std.specs.Prelude.{◌≡◌};
+    ghost use Rattle.t1s_script.specs.declared.refusals.LineFault.TheVariants.{Memory};
+
+    ghost from_gives = { λ error fault. fault ≡ Memory error };
+
+    fn from(error: AllocError) -> LineFault {
+        LineFault::Memory(error)
+    }
 }
 
 /// Why no script was read.

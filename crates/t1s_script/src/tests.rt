@@ -1,13 +1,13 @@
 use crate::{
-    NodeLine, NodeList, Script, ScriptFault, ScriptReason, ScriptRefusal, Unfit, bound, fit,
-    read_script, span,
+    ActList, NodeLine, NodeList, Script, ScriptFault, ScriptReason, ScriptRefusal, Unfit, bound,
+    fit, read_script, span,
 };
 use std::alloc::{AllocError, Global};
 use std::process::Abort;
 use std::test::Fail;
 
 /// Why the text is refused, if it is.
-fn refusal_of(alloc: Global, text: &[u8]) -> Option<ScriptRefusal> {
+pub fn refusal_of(alloc: Global, text: &[u8]) -> Option<ScriptRefusal> {
     match read_script(alloc, text) {
         Err(ScriptFault::Refused(refusal)) => Some(refusal),
         _ => None,
@@ -15,12 +15,17 @@ fn refusal_of(alloc: Global, text: &[u8]) -> Option<ScriptRefusal> {
 }
 
 /// Sees that each text is refused at its line, for its reason.
-fn check_refused(rt: &impl Abort, alloc: Global, rows: &[(&str, u32, ScriptReason)]) {
+pub fn check_refused(rt: &impl Abort, alloc: Global, rows: &[(&str, u32, ScriptReason)]) {
     for row in rows {
         let (text, line, reason) = *row;
         let refused = Some(ScriptRefusal { line, reason });
         assert_eq!(rt; refusal_of(alloc, text.as_bytes()), refused, "{text}");
     }
+}
+
+/// The numbers of a node: its own, its ID, its place, its timer and its start.
+fn numbers_of(node: &NodeLine) -> (u8, u8, u8, u8, u64) {
+    (node.no, node.id, node.place, node.to, node.start)
 }
 
 #[test]
@@ -36,14 +41,12 @@ fn what_no_line_gives_has_its_default(rt: HostRuntime) -> Result<(), Fail> {
     );
     assert_eq!(rt; numbers, (8, 32, 4, 4, 0, 8));
     assert_eq!(rt; (script.seed, script.end), (1, 2_000_000));
-    let node = NodeLine {
-        no: 3,
-        id: 1,
-        place: 2,
-        to: 32,
-        start: 0,
-    };
-    assert_eq!(rt; script.nodes.as_slice(), [node].as_slice());
+    assert_eq!(rt; script.nodes.as_slice().len(), 1);
+    for node in script.nodes.as_slice() {
+        assert_eq!(rt; numbers_of(node), (3, 1, 2, 32, 0));
+        assert!(rt; node.draws.is_none());
+    }
+    assert!(rt; script.acts.as_slice().is_empty());
     Ok(())
 }
 
@@ -62,16 +65,12 @@ room 64\nburst 255\nfall 16\nrise 16\nto 255\ncount 254\nend 1\n# the end\n";
     );
     assert_eq!(rt; numbers, (254, 255, 16, 16, 255, 64));
     assert_eq!(rt; (script.seed, script.end), (4_294_967_295, 1));
-    let node = |no, id, place, start| NodeLine {
-        no,
-        id,
-        place,
-        to: 255,
-        start,
-    };
+    let nodes = script.nodes.as_slice();
+    assert_eq!(rt; nodes.len(), 2);
+    assert_eq!(rt; nodes.first().map(numbers_of), Some((0, 0, 0, 255, 0)));
     assert_eq!(rt;
-        script.nodes.as_slice(),
-        [node(0, 0, 0, 0), node(15, 255, 255, 2_000_000)].as_slice()
+        nodes.last().map(numbers_of),
+        Some((15, 255, 255, 255, 2_000_000))
     );
     Ok(())
 }
@@ -193,7 +192,7 @@ fn longer_texts_are_refused_as_a_whole(rt: HostRuntime) -> Result<(), Fail> {
 }
 
 /// A premise that isn't met.
-fn unmet(premise: u8, left: u64, right: u64) -> Result<(), Unfit> {
+pub fn unmet(premise: u8, left: u64, right: u64) -> Result<(), Unfit> {
     Err(Unfit {
         premise,
         left,
@@ -262,8 +261,9 @@ fn wide_script(alloc: Global) -> Result<Script, AllocError> {
         place,
         to,
         start: 0,
+        draws: None,
     };
-    let nodes = Vec::from_slice(alloc, &[node(0, 0, 0, 255), node(1, 9, 255, 40)])?;
+    let nodes = Vec::from_array(alloc, [node(0, 0, 0, 255), node(1, 9, 255, 40)])?;
     Ok(Script {
         count: 255,
         to: 255,
@@ -273,6 +273,7 @@ fn wide_script(alloc: Global) -> Result<Script, AllocError> {
         room: 255,
         seed: u64::MAX,
         nodes: NodeList::of(nodes),
+        acts: ActList::of(Vec::new(alloc)),
         end: u64::MAX,
     })
 }

@@ -1,10 +1,35 @@
 // What a line of a script says.
-ghost use Rattle.std.specs.Prelude.{◌≡◌};
-ghost use Rattle.t1s_script.specs.Settings.{lowest, highest, default_of};
-ghost use Rattle.t1s_script.specs.ParsedLine.{word_of};
+ghost use Rattle.std.specs.Prelude.{◌≡◌, ◌≤◌};
+ghost use Rattle.t1s_script.specs.Settings.{default_of, setting_range};
+ghost use Rattle.t1s_script.specs.ParsedLine.{is_within, word_of};
+
+use t1s_frame::Frame;
+
+/// The numbers that a field takes.
+#[derive(Clone, Copy)]
+pub struct Range {
+    pub least: u64,
+    pub greatest: u64,
+}
+
+impl Range {
+    /// The numbers from the one to the other.
+    pub fn of(least: u64, greatest: u64) -> Range
+        ensures { result ≡ record { least = least; greatest = greatest } }
+    {
+        Range { least, greatest }
+    }
+
+    /// Whether the number is one of them.
+    pub fn has(self, number: u64) -> bool
+        ensures { result ≡ is_within self number }
+    {
+        self.least <= number && number <= self.greatest
+    }
+}
 
 /// A number that holds for the whole script and may stand once. Each is an octet.
-#[derive(Clone, Copy, PartialEq, Eq, Debug)]
+#[derive(Clone, Copy)]
 pub enum Setting {
     /// The PLCA node count: how many opportunities a cycle has.
     Count,
@@ -21,31 +46,18 @@ pub enum Setting {
 }
 
 impl Setting {
-    /// The least number that it takes.
-    pub fn lowest(self) -> u8
-        ensures { result ≡ lowest self }
+    /// The numbers that it takes.
+    pub fn range(self) -> Range
+        ensures value { result ≡ setting_range self }
+        ensures octet { result.greatest ≤ 255 }
     {
         match self {
-            Setting::Count => 1,
-            Setting::To => 16,
-            Setting::Rise => 1,
-            Setting::Fall => 1,
-            Setting::Burst => 0,
-            Setting::Room => 1,
-        }
-    }
-
-    /// The greatest number that it takes.
-    pub fn highest(self) -> u8
-        ensures { result ≡ highest self }
-    {
-        match self {
-            Setting::Count => 254,
-            Setting::To => 255,
-            Setting::Rise => 16,
-            Setting::Fall => 16,
-            Setting::Burst => 255,
-            Setting::Room => 64,
+            Setting::Count => Range::of(1, 254),
+            Setting::To => Range::of(16, 255),
+            Setting::Rise => Range::of(1, 16),
+            Setting::Fall => Range::of(1, 16),
+            Setting::Burst => Range::of(0, 255),
+            Setting::Room => Range::of(1, 64),
         }
     }
 
@@ -65,17 +77,20 @@ impl Setting {
 }
 
 /// The words by which a line after the first begins.
-#[derive(Clone, Copy, PartialEq, Eq, Debug)]
+#[derive(Clone, Copy)]
 pub enum Word {
     Set(Setting),
     Seed,
     Node,
     Late,
+    Draw,
+    Offer,
+    Fill,
     End,
 }
 
 /// What a line after the first says.
-#[derive(Clone, Copy, PartialEq, Eq, Debug)]
+#[derive(Drop)]
 pub enum ScriptLine {
     /// It begins with `#`.
     Skipped,
@@ -87,6 +102,10 @@ pub enum ScriptLine {
     Node { no: u8, id: u8, place: u8 },
     /// The tick at which the node of that number starts.
     Late { no: u8, start: u64 },
+    /// A draw of the node of that number.
+    Draw { no: u8, draw: u16 },
+    /// A frame that is offered to the node of that number.
+    Offer { tick: u64, no: u8, frame: Frame },
     /// The number of ticks of the run.
     End(u64),
 }
@@ -113,6 +132,12 @@ pub fn word_in(field: &[u8]) -> Option<Word>
         Some(Word::Node)
     } else if field == b"late".as_slice() {
         Some(Word::Late)
+    } else if field == b"draw".as_slice() {
+        Some(Word::Draw)
+    } else if field == b"offer".as_slice() {
+        Some(Word::Offer)
+    } else if field == b"fill".as_slice() {
+        Some(Word::Fill)
     } else if field == b"end".as_slice() {
         Some(Word::End)
     } else {

@@ -1,0 +1,21 @@
+-- How much a script may hold beside its nodes.
+use Rattle.std.specs.Prelude.{ℕ}
+
+-- the most timed lines of a script
+abbrev pub most_acts : ℕ
+most_acts = 4096
+
+-- the most draws that a script lists for a node
+abbrev pub most_draws : ℕ
+most_draws = 64
+
+-- the greatest draw: the tenth backoff of a frame and each later one waits below 1024 slots (IEEE 802.3 clause 4.2.3.2.5)
+abbrev pub last_draw : ℕ
+last_draw = 1023
+
+-- the least and the most octets of a frame without its frame check sequence
+abbrev pub shortest_offer : ℕ
+shortest_offer = 14
+
+abbrev pub longest_offer : ℕ
+longest_offer = 1518

@@ -1,5 +1,5 @@
 -- The one node with ID 0 in its world: what it drives in each tick, and its drives.
-use Rattle.std.proofs.Common.{◌≡◌, ℕ, zero, suc, ◌+◌, ◌-◌, ◌*◌, ◌%◌, ◌<◌, ◌≤◌, ◌⊎◌, inl, inr, cond, eqb, refl, arith, Option, Some, None, ◌∙◌, sym, ap, subst, min, ◌↔◌}
+use Rattle.std.proofs.Common.{◌≡◌, ℕ, zero, suc, ◌+◌, ◌-◌, ◌*◌, ◌%◌, ◌<◌, ◌≤◌, ◌⊎◌, inl, inr, cond, eqb, refl, arith, Option, Some, None, ◌∙◌, sym, ap, subst, min, [], ◌↔◌}
 use Rattle.std.specs.Prelude.{slice_get, IsSome, IsNone}
 use Rattle.std.proofs.lemmas.Bool.{cases_lt, cases_eq, false≢true}
 use Rattle.std.proofs.Math.Nat.{mul-le-mul_right}
@@ -27,6 +27,7 @@ use Rattle.t1s_line.specs.Track.{drive_track, hear_track, driven_track, hearing_
 use Rattle.t1s_line.specs.World.{machine_of, world, places_of, first_track, first_tracks, driven_in}
 use Rattle.t1s_line.specs.Beacons.{IsLoneCoordinator, beacon_start, IsBeacon, DrivesAreBeacons}
 use Rattle.t1s_line.proofs.HeardTicks.{drive_started, hear_started}
+use Rattle.t1s_line.proofs.WithoutActs.{tick_alone, quarter_alone}
 use Rattle.t1s_line.proofs.Frameless.{node_drives}
 use Rattle.t1s_line.proofs.Silents.{silent_drives_none, first_frameless}
 use Rattle.t1s_line.proofs.Rounds.{lone, AtTick, Phase, sending, fading, turn, at_next}
@@ -126,13 +127,13 @@ module _ (D : ℕ → Option Quarter) (first period : ℕ) (long : 20 < period) 
       ] in
       (k, begins, omega (arith, h.some, h.within), omega (arith, h.within))
 
-module _ (s : Script) (z : ℕ) (line : NodeLine) (valid : IsScript s) (one : IsLoneCoordinator s z line) (at_once : line.start ≡ 0) where
+module _ (s : Script) (z : ℕ) (line : NodeLine) (valid : IsScript s) (none : s.acts ≡ []) (one : IsLoneCoordinator s z line) (at_once : line.start ≡ 0) where
   in_range : IsNodeLine line
   in_range = rw (get_or_from_slice_get s.nodes z line line one.here) at (valid.nodes z line (slice_get_within s.nodes z line one.here))
 
   others_none : (i t : ℕ) → (i ≡ z → ⊥) → driven_in s i t ≡ None
   others_none i t other = elim (slice_get_cases s.nodes i).1 [
-    | inl found ↦ silent_drives_none s t i found.0 found.2 (one.others i found.0 found.2 other)
+    | inl found ↦ silent_drives_none s none t i found.0 found.2 (one.others i found.0 found.2 other)
     | inr past ↦ driven_past (machine_of s) (places_of s) (first_tracks s) t i (omega (arith, past.0, length-map s.nodes (first_track s)))
   ]
 
@@ -172,14 +173,14 @@ module _ (s : Script) (z : ℕ) (line : NodeLine) (valid : IsScript s) (one : Is
       let on : AtTick s.count line.to s.rise s.fall (t + 1) (lone k.node) = next t k.node phase in
       let same : t + 1 ≡ suc t = omega arith in
       let P : ℕ → Type 0 = λ u. AtTick s.count line.to s.rise s.fall u (lone k.node) in
-      (hearing_track Nothing (driven_track k), later ∙ ap Some (alone t (heard_at (machine_of s) (places_of s) (first_tracks s) t z) k (hears_nothing t) start), start, subst P same on)
+      (hearing_track Nothing (driven_track k), later ∙ ap Some (tick_alone s none t (heard_at (machine_of s) (places_of s) (first_tracks s) t z) k ∙ alone t (heard_at (machine_of s) (places_of s) (first_tracks s) t z) k (hears_nothing t) start), start, subst P same on)
 
   -- what it drives in tick t, from what it keeps after it
   drives_at : (t : ℕ) → (n : NodeState) × (driven_in s z t ≡ quarter_of n.core.tx) × AtTick s.count line.to s.rise s.fall (t + 1) n
   drives_at t =
       let (k, at, start, phase) = kept_at t in (
         lone k.node,
-        driven_is (machine_of s) (places_of s) (first_tracks s) t z k at ∙ rw (drive_started t k (omega (arith, start))) (node_drives k.node),
+        driven_is (machine_of s) (places_of s) (first_tracks s) t z k at ∙ (quarter_alone s none t k ∙ rw (drive_started t k (omega (arith, start))) (node_drives k.node)),
         next t k.node phase,
       )
 

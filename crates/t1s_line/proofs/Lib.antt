@@ -1,4 +1,5 @@
 pub mod RunLemmas
+pub mod WithoutActs
 pub mod HeardTicks
 pub mod Frameless
 pub mod Signals
@@ -6,3 +7,9 @@ pub mod FramelessRuns
 pub mod Silents
 pub mod Rounds
 pub mod BeaconTicks
+pub mod ScriptNodes
+pub mod RecordCounts
+pub mod TotalsTold
+pub mod OneRecord
+pub mod RecordTicks
+pub mod WaitsTold

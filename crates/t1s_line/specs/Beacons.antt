@@ -1,5 +1,5 @@
 -- The beacons of a run without frames: where one node alone has the ID 0, it alone drives.
-use Rattle.std.specs.Prelude.{◌≡◌, ◌≢◌, ◌↔◌, ℕ, ◌+◌, ◌-◌, ◌*◌, ◌%◌, ◌<◌, ◌≤◌, min, Some, slice_get}
+use Rattle.std.specs.Prelude.{◌≡◌, ◌≢◌, [], ◌↔◌, ℕ, ◌+◌, ◌-◌, ◌*◌, ◌%◌, ◌<◌, ◌≤◌, min, Some, slice_get}
 use Rattle.t1s_symbols.specs.declared.Symbol.TheVariants.{N}
 use Rattle.t1s_world.specs.Drives.{IsDrive}
 use Rattle.t1s_script.specs.Script.{IsScript}
@@ -29,6 +29,8 @@ pub record DrivesAreBeacons (s : Script) (z : ℕ) (line : NodeLine) : Type 0 wh
   pub drives : (i a e : ℕ) → IsDrive (driven_in s i) s.end a e ↔ ((i ≡ z) × (k : ℕ) × IsBeacon s line k a e)
   pub symbols : (k a e t : ℕ) → IsBeacon s line k a e → a ≤ t → t < e → driven_in s z t ≡ Some (record { sym = N; part = (t - a) % 4 })
 
--- where exactly one node has the ID 0, and starts at once, the drives are exactly its beacons
+-- where no frame is offered and no noise begins, and exactly one node has the ID 0, which starts at once, the drives are
+-- exactly its beacons
 abbrev pub LoneCoordinatorBeacons : Type 0
-LoneCoordinatorBeacons = (s : Script) (z : ℕ) (line : NodeLine) → IsScript s → IsLoneCoordinator s z line → line.start ≡ 0 → DrivesAreBeacons s z line
+LoneCoordinatorBeacons =
+    (s : Script) (z : ℕ) (line : NodeLine) → IsScript s → s.acts ≡ [] → IsLoneCoordinator s z line → line.start ≡ 0 → DrivesAreBeacons s z line

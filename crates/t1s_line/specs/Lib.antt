@@ -1,8 +1,11 @@
 pub mod EventRecords
-pub mod Totals
+pub mod Acts
 pub mod Outcomes
+pub mod Offers
+pub mod Totals
 pub mod Runs
 pub mod Track
 pub mod World
+pub mod Happenings
 pub mod Beacons
 pub mod FramelessNodes

@@ -1,16 +1,21 @@
--- What happens in a run, and what is counted in it, over any machine of its nodes.
-use Rattle.std.specs.Prelude.{ℕ, zero, suc, ◌+◌, ◌==◌, Bool, false, List, [], ◌∷◌, Option, None, map, get_or, position}
+-- What happens in a run, and what is counted in it, over any kind of node and any acts.
+use Rattle.std.specs.Prelude.{ℕ, zero, suc, ◌==◌, Bool, false, List, ◌++◌, Option, None, map, get_or, position}
 use Rattle.std.specs.Option.{option_map}
 use Rattle.std.specs.List.{flat_map, list_all}
 use Rattle.t1s_symbols.specs.declared.Heard.{Heard}
 use Rattle.t1s_symbols.specs.declared.Heard.TheVariants.{Nothing}
-use Rattle.t1s_world.specs.Events.{first_below, count_below}
+use Rattle.t1s_world.specs.Events.{first_below}
+use Rattle.t1s_world.specs.Lists.{each_with}
 use Rattle.t1s_world.specs.World.{Machine, past, drive_outcomes, hear_outcomes_at}
+use Rattle.t1s_script.specs.declared.script.Act.{Act}
 use Rattle.t1s_script.specs.declared.script.NodeLine.{NodeLine}
+use Rattle.t1s_line.specs.declared.offers.OfferState.{OfferState}
 use Rattle.t1s_line.specs.declared.totals.NodeTotals.{NodeTotals}
+use Rattle.t1s_line.specs.Acts.{offers_at}
 use Rattle.t1s_line.specs.EventRecords.{EventRecord}
-use Rattle.t1s_line.specs.Outcomes.{DriveOutcome, HearOutcome}
-use Rattle.t1s_line.specs.Totals.{totals_with, after_clash}
+use Rattle.t1s_line.specs.Offers.{OfferRecord, offer_event, records_of, first_state, after_records, after_leaves}
+use Rattle.t1s_line.specs.Outcomes.{DriveOutcome, HearOutcome, NodePhases, machine_with}
+use Rattle.t1s_line.specs.Totals.{no_totals, after_refusals, after_driving, after_hearing}
 
 -- the places of the nodes
 abbrev pub places_in : List NodeLine → List ℕ
@@ -20,52 +25,61 @@ places_in lines = map (λ (n : NodeLine). n.place) lines
 abbrev pub heard_tick : HearOutcome → Heard × Bool
 heard_tick d = (d.heard, d.drove)
 
--- a node's totals after what came of one more hear phase
-abbrev pub after_outcome : NodeTotals → HearOutcome → NodeTotals
-after_outcome n d = after_clash n d.clash
+abbrev pub drive_events_of : List DriveOutcome → List EventRecord
+drive_events_of ds = flat_map (λ (d : DriveOutcome). d.events) ds
 
--- the totals of the nodes at the positions i, i + 1, .., where a function tells their clashes
-abbrev pub totals_from : (ℕ → ℕ) → ℕ → List NodeLine → List NodeTotals
-totals_from clashes i [] = []
-totals_from clashes i (n ∷ ns) = totals_with n.no (clashes i) ∷ totals_from clashes (i + 1) ns
+abbrev pub hear_events_of : List HearOutcome → List EventRecord
+hear_events_of ds = flat_map (λ (d : HearOutcome). d.events) ds
 
-module _ {N : Type 0} (m : Machine N DriveOutcome HearOutcome) where
-  -- the events of tick t, from what the nodes keep before it: the nodes ascending
-  abbrev pub events_of : ℕ → List N → List EventRecord
-  events_of t nodes = flat_map (λ (d : DriveOutcome). d.events) (drive_outcomes m t nodes)
+abbrev pub are_ok : List DriveOutcome → Bool
+are_ok ds = list_all (λ (d : DriveOutcome). d.ok) ds
+
+-- the run of the nodes in these lines, from what they keep at first, among these acts
+module _ {N : Type 0} (p : NodePhases N) (acts : List Act) (lines : List NodeLine) (first : List N) where
+  -- what the nodes keep before tick t
+  abbrev pub nodes_in : ℕ → List N
+  nodes_in t = (past (machine_with p acts) (places_in lines) first t).nodes
+
+  -- what becomes of the offers of tick t, in the order of their lines
+  unfoldable pub records_in : ℕ → List OfferRecord
+  records_in t = records_of p t (offers_at acts t) (nodes_in t)
+
+  -- what comes of the drive phase of tick t, node by node, and of its hear phase
+  unfoldable pub drives_in : ℕ → List DriveOutcome
+  drives_in t = drive_outcomes (machine_with p acts) t (nodes_in t)
+
+  unfoldable pub hearings_in : ℕ → List HearOutcome
+  hearings_in t = hear_outcomes_at (machine_with p acts) (places_in lines) first t
+
+  -- the events of tick t: of the offers in the order of their lines, then of the nodes ascending, and then their arrivals
+  unfoldable pub events_in : ℕ → List EventRecord
+  events_in t = map offer_event (records_in t) ++ drive_events_of (drives_in t) ++ hear_events_of (hearings_in t)
 
   -- the status of every node is OK after the drive phase of tick t
-  abbrev pub all_ok : ℕ → List N → Bool
-  all_ok t nodes = list_all (λ (d : DriveOutcome). d.ok) (drive_outcomes m t nodes)
+  unfoldable pub all_ok_in : ℕ → Bool
+  all_ok_in t = are_ok (drives_in t)
 
-  -- the run of the nodes in these lines, from what they keep at first
-  module _ (lines : List NodeLine) (first : List N) where
-    unfoldable pub all_ok_in : ℕ → Bool
-    all_ok_in t = all_ok t (past m (places_in lines) first t).nodes
+  -- the first tick below t in which every status was OK, if there is one
+  abbrev pub settled_in : ℕ → Option ℕ
+  settled_in t = first_below all_ok_in t
 
-    -- the first tick below t in which every status was OK, if there is one
-    abbrev pub settled_in : ℕ → Option ℕ
-    settled_in t = first_below all_ok_in t
+  -- what is counted at each node over the ticks below t
+  unfoldable pub totals_in : ℕ → List NodeTotals
+  totals_in zero = map (λ (n : NodeLine). no_totals n.no) lines
+  totals_in (suc t) = each_with after_hearing (each_with after_driving (after_refusals (totals_in t) (records_in t)) (drives_in t)) (hearings_in t)
 
-    -- the clashes of tick t, node by node
-    unfoldable pub clashes_in : ℕ → List Bool
-    clashes_in t = map (λ (d : HearOutcome). d.clash) (hear_outcomes_at m (places_in lines) first t)
+  -- how the offer of this number stands before tick t
+  unfoldable pub state_in : ℕ → ℕ → OfferState
+  state_in number zero = first_state acts number
+  state_in number (suc t) = after_leaves t number (after_records number (state_in number t) (records_in t)) (drives_in t)
 
-    -- whether tick t has a clash at the node at position i
-    abbrev pub clash_in : ℕ → ℕ → Bool
-    clash_in i t = get_or (clashes_in t) i false
+  -- what each node heard in the last of the ticks below t, and whether it drove in it
+  unfoldable pub heard_below : ℕ → List (Heard × Bool)
+  heard_below zero = map (λ _. (Nothing, false)) lines
+  heard_below (suc t) = map heard_tick (hearings_in t)
 
-    -- what is counted at each node over the ticks below t
-    abbrev pub totals_in : ℕ → List NodeTotals
-    totals_in t = totals_from (λ i. count_below (clash_in i) t) 0 lines
-
-    -- what each node heard in the last of the ticks below t, and whether it drove in it
-    unfoldable pub heard_below : ℕ → List (Heard × Bool)
-    heard_below zero = map (λ _. (Nothing, false)) lines
-    heard_below (suc t) = map heard_tick (hear_outcomes_at m (places_in lines) first t)
-
-    -- the same of the node with this number. None where there is no such node, and where there is no tick below t
-    abbrev pub last_heard_in : ℕ → ℕ → Option (Heard × Bool)
-    last_heard_in node zero = None
-    last_heard_in node (suc t) =
-        option_map (λ j. get_or (heard_below (suc t)) j (Nothing, false)) (position (λ (n : NodeLine). n.no == node) lines)
+  -- the same of the node with this number. None where there is no such node, and where there is no tick below t
+  abbrev pub last_heard_in : ℕ → ℕ → Option (Heard × Bool)
+  last_heard_in node zero = None
+  last_heard_in node (suc t) =
+      option_map (λ j. get_or (heard_below (suc t)) j (Nothing, false)) (position (λ (n : NodeLine). n.no == node) lines)

@@ -1,0 +1,3 @@
+pub mod SharedLine
+pub mod DriveContents
+pub mod ScheduledRun

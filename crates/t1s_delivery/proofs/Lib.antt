@@ -1,0 +1,17 @@
+pub mod Members
+pub mod ScriptOffers
+pub mod RunPieces
+pub mod PassingDrives
+pub mod NodeHappenings
+pub mod HeardDrives
+pub mod RunLeavings
+pub mod OfferedOnce
+pub mod LeavingDrives
+pub mod Due
+pub mod TakenFrames
+pub mod SettledNodes
+pub mod StartedBefore
+pub mod LeavesWithin
+pub mod Reached
+pub mod Delivered
+pub mod FitRuns

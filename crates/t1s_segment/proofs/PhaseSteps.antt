@@ -1,5 +1,5 @@
 -- Steps of the loops of a tick: one more node drives and puts it on the cable, one more node hears.
-use Rattle.std.proofs.Common.{◌≡◌, ℕ, zero, suc, ◌+◌, ◌<◌, ◌≤◌, Bool, true, false, List, [], ◌∷◌, ◌++◌, length, get_or, set, take, drop, map, replicate, Option, None, refl, ◌∙◌, ap, arith}
+use Rattle.std.proofs.Common.{◌≡◌, ℕ, zero, suc, ◌+◌, ◌<◌, ◌≤◌, Bool, true, false, cond, List, [], ◌∷◌, ◌++◌, length, get_or, set, take, drop, map, replicate, Option, None, refl, ◌∙◌, ap, arith}
 use Rattle.std.specs.Prelude.{◌&&◌}
 use Rattle.std.proofs.lemmas.List.{append-nil, drop_all, length-map, length-take-le, length-replicate, map_push, take_all, take_more}
 use Rattle.std.proofs.lemmas.List.Concat.{flat_map-append}
@@ -17,7 +17,9 @@ use Rattle.t1s_cable.specs.Stands.{no_puts}
 use Rattle.t1s_script.specs.declared.script.NodeLine.{NodeLine}
 use Rattle.t1s_line.specs.EventRecords.{EventRecord}
 use Rattle.t1s_line.specs.Outcomes.{DriveOutcome, HearOutcome}
-use Rattle.t1s_line.specs.Runs.{all_ok, events_of, heard_tick}
+use Rattle.t1s_line.specs.declared.offers.OfferState.{OfferState}
+use Rattle.t1s_line.specs.Offers.{after_leave, after_leaves, leaves_number}
+use Rattle.t1s_line.specs.Runs.{are_ok, drive_events_of, hear_events_of, heard_tick}
 use Rattle.t1s_segment.specs.State.{AreHeard}
 
 none_at : (n i : ℕ) → ◌≡◌ {A = Option Quarter} (get_or (replicate n None) i None) None
@@ -29,6 +31,10 @@ and_true : (a b : Bool) → (a && (b && true)) ≡ (a && b)
 and_true true true = refl
 and_true true false = refl
 and_true false b = refl
+
+one_leaves : (t k : ℕ) (state : OfferState) (ds : List DriveOutcome) (d : DriveOutcome) → after_leaves t k state (ds ++ d ∷ []) ≡ cond (leaves_number k d) (after_leave t (after_leaves t k state ds)) (after_leaves t k state ds)
+one_leaves t k state [] d = refl
+one_leaves t k state (e ∷ ds) d = one_leaves t k (cond (leaves_number k e) (after_leave t state) state) ds d
 
 module _ {N : Type 0} (m : Machine N DriveOutcome HearOutcome) (t : ℕ) (xs ys : List N) (i : ℕ) (x : N) (lt : i < length xs) where
   -- one more node drives
@@ -49,19 +55,31 @@ module _ {N : Type 0} (m : Machine N DriveOutcome HearOutcome) (t : ℕ) (xs ys 
     outcomes_more : drive_outcomes m t (take (i + 1) xs) ≡ drive_outcomes m t (take i xs) ++ (m.drive t x).1 ∷ []
     outcomes_more = rw (take_more xs i x lt, ← still) (map_push (λ n. (m.drive t n).1) (take i xs) x)
 
-    pub events_more : events_of m t (take (i + 1) xs) ≡ events_of m t (take i xs) ++ (m.drive t x).1.events
+    -- a list that changes element by element beside the nodes
+    drives_len : length (drive_outcomes m t (take i xs)) ≡ i
+    drives_len = length-map (take i xs) (λ n. (m.drive t n).1) ∙ length-take-le i xs (omega arith)
+
+    pub driven_more : {X : Type 0} (f : X → DriveOutcome → X) (ns ms : List X) (n : X) → length ns ≡ length xs → ms ≡ each_with f (take i ns) (drive_outcomes m t (take i xs)) ++ drop i ns → n ≡ get_or ms i n → set ms i (f n (m.drive t x).1) ≡ each_with f (take (i + 1) ns) (drive_outcomes m t (take (i + 1) xs)) ++ drop (i + 1) ns
+    driven_more f ns ms n sizes e at =
+        rw outcomes_more
+        (each_with_more f ns ms (drive_outcomes m t (take i xs)) i n (m.drive t x).1 (omega arith) drives_len e at)
+
+    pub leaves_more : (k : ℕ) (state : OfferState) → after_leaves t k state (drive_outcomes m t (take (i + 1) xs)) ≡ cond (leaves_number k (m.drive t x).1) (after_leave t (after_leaves t k state (drive_outcomes m t (take i xs)))) (after_leaves t k state (drive_outcomes m t (take i xs)))
+    leaves_more k state = rw outcomes_more (one_leaves t k state (drive_outcomes m t (take i xs)) (m.drive t x).1)
+
+    pub events_more : drive_events_of (drive_outcomes m t (take (i + 1) xs)) ≡ drive_events_of (drive_outcomes m t (take i xs)) ++ (m.drive t x).1.events
     events_more =
         let events : DriveOutcome → List EventRecord = λ d. d.events in
         rw outcomes_more
         (flat_map-append events (drive_outcomes m t (take i xs)) ((m.drive t x).1 ∷ [])
-        ∙ ap (λ (r : List EventRecord). events_of m t (take i xs) ++ r) (append-nil (m.drive t x).1.events))
+        ∙ ap (λ (r : List EventRecord). drive_events_of (drive_outcomes m t (take i xs)) ++ r) (append-nil (m.drive t x).1.events))
 
-    pub ok_more : all_ok m t (take (i + 1) xs) ≡ (all_ok m t (take i xs) && (m.drive t x).1.ok)
+    pub ok_more : are_ok (drive_outcomes m t (take (i + 1) xs)) ≡ (are_ok (drive_outcomes m t (take i xs)) && (m.drive t x).1.ok)
     ok_more =
         let ok : DriveOutcome → Bool = λ d. d.ok in
         rw outcomes_more
         (list_all-append ok (drive_outcomes m t (take i xs)) ((m.drive t x).1 ∷ [])
-        ∙ and_true (all_ok m t (take i xs)) (m.drive t x).1.ok)
+        ∙ and_true (are_ok (drive_outcomes m t (take i xs))) (m.drive t x).1.ok)
 
     -- the row of the cable where the nodes below i have put what they drive
     module _ (places : List ℕ) (sizes : length places ≡ length xs) where
@@ -83,7 +101,7 @@ module _ {N : Type 0} (m : Machine N DriveOutcome HearOutcome) (t : ℕ) (xs ys 
           get_or-unwritten (row_of m t (take i xs)) (no_puts places) (row_of m t (take i xs) ++ drop i (no_puts places)) i None row_len (omega (arith, puts_len, sizes)) refl
           ∙ none_at (length places) i
 
-  -- one more node hears: its clash is counted, and what it heard is kept
+  -- one more node hears: what it hears is counted and kept
   module _ (h : ℕ → Heard) (written : ys ≡ after_hear m t h 0 (take i xs) ++ drop i xs) (is : x ≡ get_or ys i x) where
     outcomes_len : length (hear_outcomes m t h 0 (take i xs)) ≡ i
     outcomes_len = length-hear_outcomes m t h 0 (take i xs) ∙ length-take-le i xs (omega arith)
@@ -92,6 +110,13 @@ module _ {N : Type 0} (m : Machine N DriveOutcome HearOutcome) (t : ℕ) (xs ys 
     each_more f ns ms n sizes e at =
         rw (hear_outcomes_more m t h xs ys i x lt written is)
         (each_with_more f ns ms (hear_outcomes m t h 0 (take i xs)) i n (m.hear t (h i) x).1 (omega arith) outcomes_len e at)
+
+    pub heard_more : hear_events_of (hear_outcomes m t h 0 (take (i + 1) xs)) ≡ hear_events_of (hear_outcomes m t h 0 (take i xs)) ++ (m.hear t (h i) x).1.events
+    heard_more =
+        let events : HearOutcome → List EventRecord = λ d. d.events in
+        rw (hear_outcomes_more m t h xs ys i x lt written is)
+        (flat_map-append events (hear_outcomes m t h 0 (take i xs)) ((m.hear t (h i) x).1 ∷ [])
+        ∙ ap (λ (r : List EventRecord). hear_events_of (hear_outcomes m t h 0 (take i xs)) ++ r) (append-nil (m.hear t (h i) x).1.events))
 
 -- once all nodes have put what they drive, the row is that of the tick
 pub all_put : {N : Type 0} (m : Machine N DriveOutcome HearOutcome) (t : ℕ) (xs : List N) (places : List ℕ) (i : ℕ) → length places ≡ length xs → length xs ≤ i → row_of m t (take i xs) ++ drop i (no_puts places) ≡ row_of m t xs

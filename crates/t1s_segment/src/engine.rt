@@ -3,13 +3,16 @@ ghost use Rattle.std.specs.Prelude.{◌≡◌};
 ghost use Rattle.t1s_segment.specs.State.{settled_after};
 
 use crate::machine::NodeMachine;
+use crate::offer_phase::offer_all;
+use crate::offer_states::{first_states, wait_of};
 use crate::phases::{drive_all, hear_all};
 use crate::totals::{no_totals, position_of, totals_of};
+use crate::upcoming::UpcomingActs;
 use std::alloc::{AllocError, Global};
 use std::marker::Model;
 use t1s_cable::Cable;
-use t1s_line::{NodeTotals, Watch};
-use t1s_script::NodeLine;
+use t1s_line::{NodeTotals, OfferState, Wait, Watch};
+use t1s_script::{Act, NodeLine};
 use t1s_symbols::Heard;
 
 /// Nodes over one cable, in their run.
@@ -18,9 +21,14 @@ pub struct Engine<N> {
     tick: u64,
     end: u64,
     settled: Option<u64>,
+    upcoming: UpcomingActs,
+    // the tick after the last one of the noises that have begun
+    noise_until: u64,
     nodes: Vec<N>,
     cable: Cable,
     totals: Vec<NodeTotals>,
+    // each offer's state, at its number
+    states: Vec<OfferState>,
     heard: Vec<(Heard, bool)>,
 }
 
@@ -35,9 +43,12 @@ impl<N> Model for Engine<N> {
       tick = g.tick;
       end = g.end;
       settled = g.settled;
+      upcoming = g.upcoming;
+      noise_until = g.noise_until;
       nodes = g.nodes.items;
       cable = g.cable;
       totals = g.totals.items;
+      states = g.states.items;
       heard = g.heard.items;
     } };
 
@@ -62,30 +73,36 @@ fn settled_after(settled: Option<u64>, tick: u64, ok: bool) -> Option<u64>
 }
 
 impl<N: NodeMachine + Drop> Engine<N> {
-    ghost use Rattle.std.specs.Prelude.{◌≡◌, ℕ, ◌+◌, ◌<◌, ◌≤◌, ◌==◌, List, length, find, IfOk, IfSome, IsTrue, ◌↔◌};
+    ghost use Rattle.std.specs.Prelude.{◌≡◌, ℕ, ◌+◌, ◌<◌, ◌≤◌, ◌==◌, List, length, map, find, IfOk, IfSome, IsTrue, ◌↔◌};
+    ghost use Rattle.std.specs.List.Sorted.{IsNonDecreasing};
     ghost use Rattle.t1s_base.specs.Limits.{most_nodes};
     ghost use Rattle.t1s_symbols.specs.Ranges.{IsHeard};
     ghost use Rattle.t1s_world.specs.Events.{SeesEvents};
-    ghost use Rattle.t1s_world.specs.World.{past};
+    ghost use Rattle.t1s_script.specs.declared.script.Act.{Act};
     ghost use Rattle.t1s_script.specs.declared.script.NodeLine.{NodeLine};
     ghost use Rattle.t1s_line.specs.declared.totals.NodeTotals.{NodeTotals};
-    ghost use Rattle.t1s_line.specs.Outcomes.{machine_by};
-    ghost use Rattle.t1s_line.specs.Runs.{events_of, last_heard_in, places_in, settled_in, totals_in};
+    ghost use Rattle.t1s_line.specs.Offers.{wait_of};
+    ghost use Rattle.t1s_line.specs.Runs.{events_in, last_heard_in, state_in};
+    ghost use Rattle.t1s_segment.specs.Numbers.{AreNumbered};
     ghost use Rattle.t1s_segment.specs.Stands.{Plays, ticks_left};
 
-    /// The run of these nodes, which stand in these lines of a script one by one, before its first tick. It takes all
-    /// other memory of the run.
+    /// The run of these nodes, which stand in these lines of a script one by one, among these acts in the order of their
+    /// ticks, before its first tick. It takes all other memory of the run.
     pub fn new(
         alloc: Global,
         lines: &[NodeLine],
+        acts: &[Act],
         nodes: Vec<N>,
         end: u64,
     ) -> Result<Engine<N>, AllocError>
         requires some { 1 ≤ length lines.now }
         requires few { length lines.now ≤ most_nodes }
-        requires each { length nodes.items ≡ length lines.now }
-        ensures { IfOk result (λ g. Plays (machine_by N.drive_phase N.hear_phase) lines.now nodes.items end 0 g) }
+        requires numbered { AreNumbered N.phases lines.now nodes.items }
+        requires in_order { IsNonDecreasing (map (λ (a : Act). a.tick) acts.now) }
+        ensures { IfOk result (λ g. Plays N.phases acts.now lines.now nodes.items end 0 g) }
     {
+        let upcoming = UpcomingActs::new(alloc, acts)?;
+        let states = first_states(alloc, acts)?;
         let mut places = Vec::with_capacity(alloc, lines.len())?;
         let mut totals = Vec::with_capacity(alloc, lines.len())?;
         let mut heard = Vec::with_capacity(alloc, lines.len())?;
@@ -99,9 +116,12 @@ impl<N: NodeMachine + Drop> Engine<N> {
             tick: 0,
             end,
             settled: None,
+            upcoming,
+            noise_until: 0,
             nodes,
             cable,
             totals,
+            states,
             heard,
         })
     }
@@ -120,29 +140,45 @@ impl<N: NodeMachine + Drop> Engine<N> {
         self.tick == self.end
     }
 
-    /// Plays the tick `now()`, and tells the watch its events: all nodes drive, what they drive is put on the cable, and
-    /// all nodes hear. It takes no memory.
+    /// Plays the tick `now()`, and tells the watch its events: the acts of the tick are done, all nodes drive, what they
+    /// drive is put on the cable, and all nodes hear. It takes no memory.
     pub fn tick<W: Watch>(&mut self, watch: &mut W)
         requires { 0 < ticks_left self.old }
         ensures left { ticks_left self.new + 1 ≡ ticks_left self.old }
-        ensures plays { (lines : List NodeLine) (first : List N) (end t : ℕ) →
-            Plays (machine_by N.drive_phase N.hear_phase) lines first end t self.old →
-            Plays (machine_by N.drive_phase N.hear_phase) lines first end (t + 1) self.new }
-        ensures events { (lines : List NodeLine) (first : List N) (end t : ℕ) →
-            Plays (machine_by N.drive_phase N.hear_phase) lines first end t self.old →
-            SeesEvents W.sees watch.old (events_of (machine_by N.drive_phase N.hear_phase) t
-            (past (machine_by N.drive_phase N.hear_phase) (places_in lines) first t).nodes) watch.new }
+        ensures plays { (acts : List Act) (lines : List NodeLine) (first : List N) (end t : ℕ) →
+            Plays N.phases acts lines first end t self.old → Plays N.phases acts lines first end (t + 1) self.new }
+        ensures events { (acts : List Act) (lines : List NodeLine) (first : List N) (end t : ℕ) →
+            Plays N.phases acts lines first end t self.old →
+            SeesEvents W.sees watch.old (events_in N.phases acts lines first t) watch.new }
     {
         let tick = self.tick;
+        self.noise_until = offer_all(
+            self.nodes.as_mut_slice(),
+            self.totals.as_mut_slice(),
+            self.states.as_mut_slice(),
+            &mut self.upcoming,
+            self.noise_until,
+            tick,
+            watch,
+        );
         self.cable.turn();
-        let ok = drive_all(self.nodes.as_mut_slice(), &mut self.cable, tick, watch);
+        let ok = drive_all(
+            self.nodes.as_mut_slice(),
+            self.totals.as_mut_slice(),
+            self.states.as_mut_slice(),
+            &mut self.cable,
+            tick,
+            watch,
+        );
         self.settled = settled_after(self.settled, tick, ok);
         hear_all(
             self.nodes.as_mut_slice(),
             self.totals.as_mut_slice(),
             self.heard.as_mut_slice(),
             &self.cable,
+            tick < self.noise_until,
             tick,
+            watch,
         );
         self.tick = tick + 1;
     }
@@ -150,9 +186,8 @@ impl<N: NodeMachine + Drop> Engine<N> {
     /// What the node with this number heard in the last tick that was played, and whether it drove in it. None where
     /// there is no such node, and where no tick was played.
     pub fn heard(&self, node: u8) -> Option<(Heard, bool)>
-        ensures value { (lines : List NodeLine) (first : List N) (end t : ℕ) →
-            Plays (machine_by N.drive_phase N.hear_phase) lines first end t self.now →
-            result ≡ last_heard_in (machine_by N.drive_phase N.hear_phase) lines first node t }
+        ensures value { (acts : List Act) (lines : List NodeLine) (first : List N) (end t : ℕ) →
+            Plays N.phases acts lines first end t self.now → result ≡ last_heard_in N.phases acts lines first node t }
         ensures range { IfSome result (λ r. IsHeard r.0) }
     {
         if self.tick == 0 {
@@ -174,5 +209,13 @@ impl<N: NodeMachine + Drop> Engine<N> {
         ensures { result ≡ find (λ (n : NodeTotals). n.node == node) self.now.totals }
     {
         totals_of(self.totals.as_slice(), node)
+    }
+
+    /// What has become of the offer of this number so far. None where there is no such offer.
+    pub fn wait(&self, number: u16) -> Option<Wait>
+        ensures { (acts : List Act) (lines : List NodeLine) (first : List N) (end t : ℕ) →
+            Plays N.phases acts lines first end t self.now → result ≡ wait_of (state_in N.phases acts lines first number t) }
+    {
+        wait_of(*self.states.get(usize::from(number))?)
     }
 }

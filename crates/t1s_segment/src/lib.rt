@@ -11,12 +11,15 @@
 
 mod engine;
 mod machine;
+mod offer_phase;
+mod offer_states;
 mod phases;
 mod segment;
 mod totals;
 mod track;
+mod upcoming;
 
 pub use engine::Engine;
 pub use machine::{DriveReport, HearReport, NodeMachine};
 pub use segment::Segment;
-pub use t1s_line::{Event, NodeTotals, Watch};
+pub use t1s_line::{Event, NodeTotals, OfferOutcome, Wait, Watch};

@@ -1,5 +1,8 @@
-//! What an engine plays: nodes that drive and hear once a tick.
-use t1s_line::Watch;
+//! What an engine plays: nodes that take offers, and drive and hear once a tick.
+use t1s_line::{OfferOutcome, Watch};
+use t1s_mac::MacNote;
+use t1s_pcs_rx::Kind;
+use t1s_ring::Queued;
 use t1s_symbols::{Heard, Quarter};
 
 /// What the engine takes of the drive phase of a node.
@@ -7,8 +10,12 @@ use t1s_symbols::{Heard, Quarter};
 pub struct DriveReport {
     /// What the node drives.
     pub quarter: Option<Quarter>,
+    /// What became of a frame in its MAC.
+    pub note: MacNote,
     /// Whether its PLCA status is OK.
     pub ok: bool,
+    /// The number of the frame whose first H begins in this tick.
+    pub leaves: Option<u16>,
 }
 
 /// What the engine takes of the hear phase of a node.
@@ -20,35 +27,44 @@ pub struct HearReport {
     pub drove: bool,
     /// Whether signals met: it heard several, or any while it drove.
     pub clash: bool,
+    /// The kind of the piece that its receiver completes.
+    pub arrival: Option<Kind>,
 }
 
-/// A node as an engine plays it. Its two phases are a machine of the world: what it keeps after the phase of a tick, and
-/// what comes of it.
+/// A node as an engine plays it. What an offer and the two phases of a tick leave of it, and what comes of them, is a
+/// machine of the world.
 pub trait NodeMachine {
-    ghost use Rattle.std.specs.Prelude.{◌≡◌, ℕ, IfSome};
-    ghost use Rattle.t1s_symbols.specs.declared.Heard.{Heard};
+    ghost use Rattle.std.specs.Prelude.{◌≡◌, IfSome};
     ghost use Rattle.t1s_symbols.specs.Ranges.{IsHeard, IsQuarter};
     ghost use Rattle.t1s_world.specs.Events.{SeesEvents};
-    ghost use Rattle.t1s_line.specs.Outcomes.{DriveOutcome, HearOutcome};
+    ghost use Rattle.t1s_line.specs.Outcomes.{NodePhases};
+    ghost use Rattle.t1s_segment.specs.State.{arrival_kind};
 
-    ghost drive_phase: { ℕ → Self → Self × DriveOutcome };
+    ghost phases: { NodePhases Self };
 
-    ghost hear_phase: { ℕ → Heard → Self → Self × HearOutcome };
+    /// An offer in a tick, before its drive phase: the frame stands at the back of the node's queue, or is refused.
+    fn offer(&mut self, tick: u64, queued: Queued) -> OfferOutcome
+        ensures node { self.new ≡ (phases.offer tick queued self.old).0 }
+        ensures outcome { result ≡ (phases.offer tick queued self.old).1 };
 
     /// The drive phase of a tick. The watch is told what happens in it.
     fn drive<W: Watch>(&mut self, tick: u64, watch: &mut W) -> DriveReport
-        ensures node { self.new ≡ (drive_phase tick self.old).0 }
-        ensures quarter { result.quarter ≡ (drive_phase tick self.old).1.quarter }
-        ensures ok { result.ok ≡ (drive_phase tick self.old).1.ok }
+        ensures node { self.new ≡ (phases.drive tick self.old).0 }
+        ensures quarter { result.quarter ≡ (phases.drive tick self.old).1.quarter }
+        ensures note { result.note ≡ (phases.drive tick self.old).1.note }
+        ensures ok { result.ok ≡ (phases.drive tick self.old).1.ok }
+        ensures leaves { result.leaves ≡ (phases.drive tick self.old).1.leaves }
         ensures range { IfSome result.quarter IsQuarter }
-        ensures events { SeesEvents W.sees watch.old (drive_phase tick self.old).1.events watch.new };
+        ensures events { SeesEvents W.sees watch.old (phases.drive tick self.old).1.events watch.new };
 
-    /// The hear phase of a tick, with what arrives at the node.
-    fn hear(&mut self, tick: u64, heard: Heard) -> HearReport
+    /// The hear phase of a tick, with what arrives at the node. The watch is told what happens in it.
+    fn hear<W: Watch>(&mut self, tick: u64, heard: Heard, watch: &mut W) -> HearReport
         requires { IsHeard heard }
-        ensures node { self.new ≡ (hear_phase tick heard self.old).0 }
-        ensures heard { result.heard ≡ (hear_phase tick heard self.old).1.heard }
-        ensures drove { result.drove ≡ (hear_phase tick heard self.old).1.drove }
-        ensures clash { result.clash ≡ (hear_phase tick heard self.old).1.clash }
-        ensures range { IsHeard result.heard };
+        ensures node { self.new ≡ (phases.hear tick heard self.old).0 }
+        ensures heard { result.heard ≡ (phases.hear tick heard self.old).1.heard }
+        ensures drove { result.drove ≡ (phases.hear tick heard self.old).1.drove }
+        ensures clash { result.clash ≡ (phases.hear tick heard self.old).1.clash }
+        ensures arrival { result.arrival ≡ arrival_kind (phases.hear tick heard self.old).1.event }
+        ensures range { IsHeard result.heard }
+        ensures events { SeesEvents W.sees watch.old (phases.hear tick heard self.old).1.events watch.new };
 }

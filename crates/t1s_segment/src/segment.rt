@@ -3,7 +3,7 @@ use crate::engine::Engine;
 use crate::track::first_track;
 use std::alloc::{AllocError, Global};
 use std::marker::Model;
-use t1s_line::{NodeTotals, Track, Watch};
+use t1s_line::{NodeTotals, Track, Wait, Watch};
 use t1s_script::Script;
 use t1s_symbols::Heard;
 
@@ -25,10 +25,13 @@ impl Segment {
     ghost use Rattle.std.specs.Prelude.{◌≡◌, ℕ, ◌+◌, ◌<◌, ◌==◌, find, IfOk, IfSome, IsTrue, ◌↔◌};
     ghost use Rattle.t1s_symbols.specs.Ranges.{IsHeard};
     ghost use Rattle.t1s_world.specs.Events.{SeesEvents};
+    ghost use Rattle.t1s_script.specs.Fit.{IsFit};
     ghost use Rattle.t1s_script.specs.Script.{IsScript};
     ghost use Rattle.t1s_script.specs.declared.script.Script.{Script};
     ghost use Rattle.t1s_line.specs.declared.totals.NodeTotals.{NodeTotals};
-    ghost use Rattle.t1s_line.specs.World.{events_at, last_heard, settled_below, totals_below};
+    ghost use Rattle.t1s_line.specs.World.{events_at, last_heard, settled_below, totals_below, wait_below};
+    ghost use Rattle.t1s_schedule.specs.ScheduledRun.{SharesLine};
+    ghost use Rattle.t1s_delivery.specs.Delivered.{IsDelivered};
     ghost use Rattle.t1s_segment.specs.Stands.{Stands, ticks_left};
 
     /// The segment of a valid script, before its first tick. It takes all memory of the run.
@@ -42,7 +45,7 @@ impl Segment {
             tracks.push(first_track(alloc, s, line)?)?;
         }
         Ok(Segment {
-            engine: Engine::new(alloc, lines, tracks, s.end)?,
+            engine: Engine::new(alloc, lines, s.acts.as_slice(), tracks, s.end)?,
         })
     }
 
@@ -61,12 +64,17 @@ impl Segment {
         self.engine.at_end()
     }
 
-    /// Plays the tick `now()`, and tells the watch its events. It takes no memory.
+    /// Plays the tick `now()`, and tells the watch its events. Where the script is fit, the drives of the ticks played so far are a
+    /// schedule, and no two of them overlap at any point of the cable; and each frame that was taken once every status was OK has left
+    /// within its bound and reached every other node once, unchanged, if these ticks leave room for both, and nothing else has arrived.
+    /// It takes no memory.
     pub fn tick<W: Watch>(&mut self, watch: &mut W)
         requires { 0 < ticks_left self.old }
         ensures left { ticks_left self.new + 1 ≡ ticks_left self.old }
         ensures stands { (s : Script) (t : ℕ) → Stands s t self.old → Stands s (t + 1) self.new }
         ensures events { (s : Script) (t : ℕ) → Stands s t self.old → SeesEvents W.sees watch.old (events_at s t) watch.new }
+        ensures shares_line { (s : Script) (t : ℕ) → Stands s t self.old → IsFit s → SharesLine s (t + 1) }
+        ensures delivers { (s : Script) (t : ℕ) → Stands s t self.old → IsFit s → IsDelivered s (t + 1) }
     {
         self.engine.tick(watch);
     }
@@ -94,6 +102,13 @@ impl Segment {
     {
         self.engine.totals(node)
     }
+
+    /// What has become of the offer of this number so far. None where the script has no such offer.
+    pub fn wait(&self, number: u16) -> Option<Wait>
+        ensures { (s : Script) (t : ℕ) → Stands s t self.now → result ≡ wait_below s t number }
+    {
+        self.engine.wait(number)
+    }
 }
 
 #[cfg(test)]
@@ -109,18 +124,19 @@ mod tests {
     struct Tally {
         beacons: u64,
         quiets: u64,
-        last_status: Option<Event>,
+        /// The tick, the node, and whether its status became OK.
+        last_status: Option<(u64, u8, bool)>,
     }
 
     impl Watch for Tally {
         ghost sees = { λ _ _ _. Unit {0} };
 
-        fn event(&mut self, e: &Event) {
+        fn event(&mut self, e: &Event<'_>) {
             match *e {
-                Event::StatusIs { .. } => self.last_status = Some(*e),
+                Event::StatusIs { tick, node, ok } => self.last_status = Some((tick, node, ok)),
                 Event::Beacon { .. } => self.beacons = self.beacons.saturating_add(1),
-                Event::Commit { .. } => {}
                 Event::Quiet { .. } => self.quiets = self.quiets.saturating_add(1),
+                _ => {}
             }
         }
     }
@@ -200,14 +216,7 @@ mod tests {
         assert_eq!(rt; segment.now(), 8300);
         assert_eq!(rt; tally.beacons, 2);
         assert_eq!(rt; tally.quiets, 2);
-        assert_eq!(rt;
-            tally.last_status,
-            Some(Event::StatusIs {
-                tick: 8256,
-                node: 7,
-                ok: true
-            })
-        );
+        assert_eq!(rt; tally.last_status, Some((8256, 7, true)));
         assert_eq!(rt; segment.settled(), Some(8256));
         assert_eq!(rt; segment.totals(1), None);
         for node in [0, 7] {

@@ -2,16 +2,19 @@
 ghost use Rattle.std.specs.Prelude.{◌≡◌, ◌≤◌, IfOk};
 ghost use Rattle.t1s_world.specs.Events.{SeesEvents};
 ghost use Rattle.t1s_node.specs.Node.{IsNodeSet};
-ghost use Rattle.t1s_line.specs.Track.{begin_events, drive_events, drive_track, hear_track, status_events};
-ghost use Rattle.t1s_line.specs.World.{first_track, node_set_of};
+ghost use Rattle.t1s_pcs_rx.specs.Leaves.{EventFits, event_shown};
+ghost use Rattle.t1s_line.specs.Track.{arrive_events, begin_events, drive_events, leave_events, note_events, status_events, track_phases};
+ghost use Rattle.t1s_line.specs.World.{draws_of, first_track, node_set_of};
+ghost use Rattle.t1s_segment.specs.State.{arrival_kind};
 
 use crate::machine::{DriveReport, HearReport, NodeMachine};
 use plca_control::ControlSet;
 use std::alloc::{AllocError, Global};
-use t1s_line::{Event, Track, Watch};
-use t1s_mac::{PickedDraws, SeedDraws};
+use t1s_line::{Event, OfferOutcome, Track, Watch};
+use t1s_mac::{ListDraws, MacNote, PickedDraws, SeedDraws};
 use t1s_node::{Node, NodeSet};
-use t1s_ring::{DelayLine, FrameRing};
+use t1s_pcs_rx::{Kind, RxEvent};
+use t1s_ring::{DelayLine, FrameRing, Queued};
 use t1s_script::{NodeLine, Script};
 use t1s_symbols::{Heard, Quarter, Symbol};
 
@@ -53,6 +56,61 @@ fn tell_drive<W: Watch>(watch: &mut W, tick: u64, node: u8, before: bool, quarte
     }
 }
 
+/// Tells what became of a frame in the MAC.
+fn tell_note<W: Watch>(watch: &mut W, tick: u64, node: u8, note: MacNote)
+    ensures { SeesEvents W.sees watch.old (note_events tick node note) watch.new }
+{
+    match note {
+        MacNote::Jam(number) => watch.event(&Event::Jam { tick, node, number }),
+        MacNote::Drop(number) => watch.event(&Event::Drop { tick, node, number }),
+        MacNote::None | MacNote::Sent(_) => {}
+    }
+}
+
+/// Tells that the first H of a frame begins.
+fn tell_leave<W: Watch>(watch: &mut W, tick: u64, node: u8, leaves: Option<u16>)
+    ensures { SeesEvents W.sees watch.old (leave_events tick node leaves) watch.new }
+{
+    if let Some(number) = leaves {
+        watch.event(&Event::Leave { tick, node, number });
+    }
+}
+
+/// Tells of the piece that the receiver completes, and answers its kind.
+fn tell_arrival<W: Watch>(watch: &mut W, tick: u64, node: u8, event: &RxEvent<'_>) -> Option<Kind>
+    requires { EventFits event.now }
+    ensures events { SeesEvents W.sees watch.old (arrive_events tick node (event_shown event.now)) watch.new }
+    ensures kind { result ≡ arrival_kind (event_shown event.now) }
+{
+    match event {
+        RxEvent::Nothing => None,
+        RxEvent::Piece(view) => {
+            watch.event(&Event::Arrive {
+                tick,
+                node,
+                kind: view.kind,
+                frame: view.frame,
+            });
+            Some(view.kind)
+        }
+    }
+}
+
+/// The draws of a node: those that the script lists for it, or those of the seed.
+fn draws_of(alloc: Global, script: &Script, line: &NodeLine) -> Result<PickedDraws, AllocError>
+    ensures { IfOk result (λ draws. draws ≡ draws_of script.now line.now) }
+{
+    Ok(match &line.draws {
+        None => PickedDraws::Seed(SeedDraws::new(script.seed, line.no)),
+        Some(draws) => {
+            let draws = draws.as_slice();
+            let mut list = Vec::with_capacity(alloc, draws.len())?;
+            list.extend_from_slice(draws)?;
+            PickedDraws::List(ListDraws::new(list))
+        }
+    })
+}
+
 /// A node of a script before its first tick, with its ring and its delay line.
 pub fn first_track(alloc: Global, script: &Script, line: &NodeLine) -> Result<Track, AllocError>
     requires set { IsNodeSet (node_set_of script.now line.now) }
@@ -72,7 +130,7 @@ pub fn first_track(alloc: Global, script: &Script, line: &NodeLine) -> Result<Tr
     };
     let ring = FrameRing::with_room(alloc, script.room)?;
     let delay = DelayLine::new(alloc)?;
-    let draws = PickedDraws::Seed(SeedDraws::new(script.seed, line.no));
+    let draws = draws_of(alloc, script, line)?;
     Ok(Track {
         no: line.no,
         start: line.start,
@@ -85,7 +143,9 @@ pub fn first_track(alloc: Global, script: &Script, line: &NodeLine) -> Result<Tr
 /// What comes of the drive phase of a node that has not started.
 const NO_DRIVE: DriveReport = DriveReport {
     quarter: None,
+    note: MacNote::None,
     ok: false,
+    leaves: None,
 };
 
 /// What comes of its hear phase.
@@ -93,12 +153,22 @@ const NO_HEARING: HearReport = HearReport {
     heard: Heard::Nothing,
     drove: false,
     clash: false,
+    arrival: None,
 };
 
 impl NodeMachine for Track {
-    ghost drive_phase = { drive_track };
+    ghost phases = { track_phases };
 
-    ghost hear_phase = { hear_track };
+    #[tactic(auto, unfolding(t1s_line::specs::Track::offer_track))]
+    fn offer(&mut self, tick: u64, queued: Queued) -> OfferOutcome {
+        if tick < self.start {
+            return OfferOutcome::Off;
+        }
+        match self.node.offer(queued) {
+            Ok(()) => OfferOutcome::Taken,
+            Err(_) => OfferOutcome::Full,
+        }
+    }
 
     #[tactic(auto, unfolding(t1s_line::specs::Track::drive_track))]
     fn drive<W: Watch>(&mut self, tick: u64, watch: &mut W) -> DriveReport {
@@ -107,25 +177,33 @@ impl NodeMachine for Track {
         }
         let driven = self.node.drive();
         tell_status(watch, tick, self.no, self.ok, driven.ok);
+        tell_note(watch, tick, self.no, driven.note);
         tell_drive(watch, tick, self.no, self.driving, driven.quarter);
+        tell_leave(watch, tick, self.no, driven.leaves);
         self.ok = driven.ok;
         self.driving = driven.quarter.is_some();
         DriveReport {
             quarter: driven.quarter,
+            note: driven.note,
             ok: driven.ok,
+            leaves: driven.leaves,
         }
     }
 
     #[tactic(auto, unfolding(t1s_line::specs::Track::hear_track))]
-    fn hear(&mut self, tick: u64, heard: Heard) -> HearReport {
+    fn hear<W: Watch>(&mut self, tick: u64, heard: Heard, watch: &mut W) -> HearReport {
         if tick < self.start {
             return NO_HEARING;
         }
-        let clash = self.node.hear(heard).clash;
+        let no = self.no;
+        let drove = self.driving;
+        let told = self.node.hear(heard);
+        let arrival = tell_arrival(watch, tick, no, &told.event);
         HearReport {
             heard,
-            drove: self.driving,
-            clash,
+            drove,
+            clash: told.clash,
+            arrival,
         }
     }
 }

@@ -1,9 +1,8 @@
 use Rattle.std.proofs.Common.{◌≡◌, ◌≤◌, length, refl, ◌∙◌, arith}
 use Rattle.std.proofs.lemmas.List.{length-map, take_all}
 use Rattle.t1s_script.specs.declared.script.NodeLine.{NodeLine}
-use Rattle.t1s_line.specs.Outcomes.{machine_by}
 use Rattle.t1s_segment.proofs.PhaseSteps.{nothing_heard}
-use Rattle.t1s_segment.proofs.Playing.{plays_first}
+use Rattle.t1s_segment.proofs.Playing.{length_numbered, plays_first}
 use Rattle.t1s_segment.proofs.engine.Engine.new.Goals as goal
 
 pub invariant_of-result : goal.invariant_of-result
@@ -15,10 +14,11 @@ invariant_of-result g c =
     let totals = rw take_all at loop.totals in
     let heard = rw take_all at loop.heard in
     let size : length c.in_ok-cable.cable.places ≡ length lines = rw placed (length-map lines (λ (n : NodeLine). n.place)) in
+    let as_many = length_numbered g.N.NodeMachine.phases lines c.args.nodes.items c.requires.numbered in
     record {
       in_time = omega arith;
       few = omega (arith, size, c.requires.few);
-      nodes_len = omega (arith, size, c.requires.each);
+      nodes_len = omega (arith, size, as_many);
       totals_len = rw (totals, size) (length-map lines _);
       heard_len = rw (heard, size) (length-map lines _);
       heard_in_range = rw heard (nothing_heard lines);
@@ -31,9 +31,12 @@ returns g c =
     let loop = c.loop-line.invariant in
     let places = c.as_slice.ensures.value ∙ rw take_all at loop.places in
     let cable = c.in_ok-cable.ensures in
-    plays_first (machine_by g.N.NodeMachine.drive_phase g.N.NodeMachine.hear_phase) lines c.args.nodes.items c.args.end _ refl refl refl
+    plays_first g.N.NodeMachine.phases c.args.acts.now lines c.args.nodes.items c.args.end _ c.requires.numbered c.requires.in_order refl refl refl
+    c.in_ok-upcoming.ensures
+    refl
     (cable.places ∙ places)
     refl
     (rw places at cable.stands)
     (rw take_all at loop.totals)
+    c.in_ok-states.ensures
     (rw take_all at loop.heard)

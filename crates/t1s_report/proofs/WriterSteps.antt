@@ -1,5 +1,5 @@
 -- What a writer has done with one text and then another.
-use Rattle.std.proofs.Common.{◌≡◌, ℕ, zero, suc, ◌+◌, ◌-◌, ◌<◌, ◌⊎◌, add-zero, ◌≤◌, Bool, true, false, List, [], ◌∷◌, ◌++◌, inl, inr, length, take, get_or, map, codes, decimal, Option, None, Some, refl, sym, ◌∙◌, ap, arith, append_assoc, length-append}
+use Rattle.std.proofs.Common.{◌≡◌, ℕ, zero, suc, ◌+◌, ◌-◌, ◌<◌, ◌⊎◌, add-zero, ◌≤◌, Bool, true, false, List, [], ◌∷◌, ◌++◌, inl, inr, length, take, get_or, map, codes, decimal, Option, None, Some, refl, ◌∙◌, ap, arith, append_assoc, length-append}
 use Rattle.std.specs.List.{concat, flat_map, join_with_byte}
 use Rattle.std.proofs.lemmas.Bool.{cases_lt}
 use Rattle.std.proofs.lemmas.List.{append-nil, take_all, take_more}
@@ -11,12 +11,13 @@ use Rattle.t1s_world.specs.Events.{SeesEvents, events_below}
 use Rattle.t1s_world.proofs.EventLemmas.{events_below-zero, events_below-more}
 use Rattle.t1s_script.specs.declared.script.Script.{Script}
 use Rattle.t1s_line.specs.EventRecords.{EventRecord}
+use Rattle.t1s_line.specs.declared.offers.Wait.{Wait}
 use Rattle.t1s_line.specs.World.{events_at, settled_below, totals_below}
 use Rattle.t1s_report.specs.declared.writer.Writer.{Writer}
 use Rattle.t1s_report.specs.EventLines.{event_line}
 use Rattle.t1s_report.specs.Lines.{line}
 use Rattle.t1s_report.specs.Report.{event_lines_below, event_lines, summary_below, summary, report}
-use Rattle.t1s_report.specs.SummaryLines.{settled_line, node_line}
+use Rattle.t1s_report.specs.SummaryLines.{settled_line, node_line, offer_line, waits_below}
 use Rattle.t1s_report.specs.WriterStep.{WriterStep}
 use Rattle.t1s_report.proofs.SinkGrowth.{grows_none, grows_more, prefix_more, prefix_wider}
 
@@ -40,7 +41,7 @@ settled_written (Some tick) = line_written (codes "settled" ∷ decimal tick ∷
 pub report_written : (s : Script) → 0 < length (report s)
 report_written s =
     let some = settled_written (settled_below s s.end) in
-    let rest = concat (map node_line (totals_below s s.end)) in
+    let rest = concat (map node_line (totals_below s s.end) ++ map (λ (w : ℕ × Wait). offer_line w.0 w.1) (waits_below s s.end)) in
     omega (arith, length-append (event_lines s) (summary s), length-append (settled_line (settled_below s s.end)) rest)
 
 module _ {K : Type 0} (written : K → Option (List ℕ)) (faults : K → ℕ) (finished : K → Bool) where

@@ -1,14 +1,12 @@
 -- The lines of a decoded capture. Numbers are plain decimal.
-use Rattle.std.specs.Prelude.{◌≡◌, ℕ, ◌-◌, ◌≤◌, List, [], ◌∷◌, length, take, codes, decimal}
-use Rattle.std.specs.List.{join_with_byte}
-use Rattle.hex.specs.Hex.{encode_lower}
+use Rattle.std.specs.Prelude.{◌≡◌, ℕ, ◌≤◌, List, [], ◌∷◌, length, codes, decimal}
 use Rattle.t1s_pcs_rx.specs.declared.piece.Closer.{Closer}
 use Rattle.t1s_pcs_rx.specs.declared.piece.Closer.TheVariants.{R, K, S}
-use Rattle.t1s_pcs_rx.specs.declared.piece.Kind.{Kind}
-use Rattle.t1s_pcs_rx.specs.declared.piece.Kind.TheVariants.{Good, BadFcs, Odd, Runt, NoSfd, Errored, Jabber}
+use Rattle.t1s_pcs_rx.specs.declared.piece.Kind.TheVariants.{Good}
 use Rattle.t1s_pcs_rx.specs.Views.{View}
 use Rattle.t1s_capture.specs.declared.items.Counts.{Counts}
 use Rattle.t1s_capture.specs.DecodedItems.{DecodedItem, PieceItem, BeaconItem, RunItem, BareItem, TornItem}
+use Rattle.t1s_report.specs.ArrivalTexts.{kind_text}
 use Rattle.t1s_report.specs.Lines.{line}
 
 -- the letter of a closer
@@ -16,20 +14,6 @@ abbrev pub closer_name : Closer → List ℕ
 closer_name R = codes "R"
 closer_name K = codes "K"
 closer_name S = codes "S"
-
--- the octets of a frame before its frame check sequence, which is four octets
-abbrev pub before_check : List ℕ → List ℕ
-before_check frame = take (length frame - 4) frame
-
--- what a piece is: a good one with the octets of its frame in hexadecimal
-abbrev pub kind_text : Kind → List ℕ → List ℕ
-kind_text Good frame = join_with_byte 32 (codes "good" ∷ encode_lower (before_check frame) ∷ [])
-kind_text BadFcs frame = codes "badfcs"
-kind_text Odd frame = codes "odd"
-kind_text Runt frame = codes "runt"
-kind_text NoSfd frame = codes "nosfd"
-kind_text Errored frame = codes "errored"
-kind_text Jabber frame = codes "jabber"
 
 -- the line of a piece that starts at this tick: its J, its nibbles, its closer, and what it is
 abbrev pub piece_line : ℕ → View → List ℕ

@@ -1,6 +1,8 @@
 pub mod Lines
+pub mod ArrivalTexts
 pub mod EventLines
 pub mod SummaryLines
+pub mod JsonSummary
 pub mod FitnessLines
 pub mod RefusalLines
 pub mod OffenceLines

@@ -7,7 +7,7 @@ use t1s_base::{Line, put_number, put_text};
 pub(crate) fn clear(out: &mut Line)
     ensures { out.new ≡ [] }
 {
-    *out = Line::new();
+    out.clear();
 }
 
 /// Appends a text that fits.

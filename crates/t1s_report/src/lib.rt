@@ -5,13 +5,16 @@
 //! `specs/FitnessLines.antt`, `specs/RefusalLines.antt`, `specs/ItemLines.antt` and `specs/OffenceLines.antt`; what a
 //! writer does with a text in `specs/WriterStep.antt`. The whole texts that are made of lines and octets are the report
 //! in `specs/Report.antt`, the capture of what a node hears in `specs/HeardText.antt`, and the text of a decoded capture
-//! in `specs/DecodedText.antt`. That all octets have one decoded text is a law, in the module `laws`.
+//! in `specs/DecodedText.antt`. The summary as one JSON object stands in `specs/JsonSummary.antt`. That all octets have
+//! one decoded text is a law, in the module `laws`.
 #![tactic(auto)]
 
+mod arrival_texts;
 mod event_lines;
 mod fields;
 mod fitness_lines;
 mod item_lines;
+mod json_summary;
 pub mod laws;
 mod offence_lines;
 mod refusal_lines;
@@ -21,6 +24,7 @@ mod writer;
 pub use event_lines::event_line;
 pub use fitness_lines::check_line;
 pub use item_lines::{end_line, item_line};
+pub use json_summary::json_of;
 pub use offence_lines::offence_line;
 pub use refusal_lines::refused_line;
 pub use summary_lines::{node_line, summary_line};

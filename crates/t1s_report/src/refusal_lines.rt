@@ -19,8 +19,12 @@ fn reason_name(reason: ScriptReason) -> &'static [u8]
         ScriptReason::Form => b"Form",
         ScriptReason::Number => b"Number",
         ScriptReason::OutOfRange => b"OutOfRange",
+        ScriptReason::Hex => b"Hex",
+        ScriptReason::FrameSize => b"FrameSize",
         ScriptReason::Twice => b"Twice",
         ScriptReason::UnknownNode => b"UnknownNode",
+        ScriptReason::Order => b"Order",
+        ScriptReason::TooMany => b"TooMany",
         ScriptReason::NoNode => b"NoNode",
         ScriptReason::NoEnd => b"NoEnd",
     }

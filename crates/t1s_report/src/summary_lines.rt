@@ -1,15 +1,19 @@
 // The lines of the summary of a run.
-ghost use Rattle.std.specs.Prelude.{◌≡◌, ◌⊎◌, ◌<◌, ℕ, [], length, nat_lt, get_or, slice_get, None, IsTrue};
+ghost use Rattle.std.specs.Prelude.{◌≡◌, ◌⊎◌, ◌<◌, ◌≤◌, ℕ, [], length, nat_lt, get_or, slice_get, None, IsTrue};
 ghost use Rattle.t1s_base.specs.Limits.{most_nodes};
+ghost use Rattle.t1s_script.specs.Limits.{most_acts};
 ghost use Rattle.t1s_script.specs.declared.script.Script.{Script};
 ghost use Rattle.t1s_segment.specs.Stands.{Stands};
 ghost use Rattle.t1s_line.specs.World.{totals_below};
-ghost use Rattle.t1s_report.specs.SummaryLines.{settled_line, node_line, summary_lines_below};
+ghost use Rattle.t1s_report.specs.SummaryLines.{settled_line, node_line, offer_line, waits_below, summary_lines_below};
 
 use crate::fields::{clear, count, number, text};
 use t1s_base::{Line, MOST_NODES};
-use t1s_line::NodeTotals;
+use t1s_line::{NodeTotals, Wait};
 use t1s_segment::Segment;
+
+/// The greatest number of an offer: a script has at most so many timed lines.
+pub(crate) const LAST_OFFER: u16 = 4096;
 
 /// Replaces the content of the line by that of the first tick in which every status was OK.
 fn settled_line(out: &mut Line, settled: Option<u64>)
@@ -57,26 +61,74 @@ fn totals_at(seg: &Segment, k: u32) -> Option<NodeTotals>
     None
 }
 
+/// How many nodes there are.
+fn node_count(seg: &Segment) -> u32
+    ensures nodes { (s : Script) (t : ℕ) → Stands s t seg.now → result ≡ length (totals_below s t) }
+    ensures few { result ≤ most_nodes }
+{
+    let mut nodes = 0;
+    for node in 0..MOST_NODES {
+        if seg.totals(node).is_some() {
+            nodes += 1;
+        }
+    }
+    nodes
+}
+
+/// Replaces the content of the line by that of an offer.
+fn offer_line(out: &mut Line, number: u16, wait: Wait)
+    ensures { out.new ≡ offer_line number wait }
+{
+    clear(out);
+    count(out, b"offer ", u64::from(number));
+    match wait {
+        Wait::Off => text(out, b" off"),
+        Wait::Full => text(out, b" full"),
+        Wait::Open => text(out, b" none"),
+        Wait::Left(ticks) => count(out, b" wait ", ticks),
+    }
+    text(out, b"\n");
+}
+
+/// The k-th offer from 0, the offers ascending: its number, and what has become of it.
+fn wait_at(seg: &Segment, k: u32) -> Option<(u16, Wait)>
+    ensures waits { (s : Script) (t : ℕ) → Stands s t seg.now → result ≡ slice_get (waits_below s t) k }
+    ensures few { (result ≡ None) ⊎ (k < most_acts) }
+{
+    let mut offers = 0;
+    for number in 1..=LAST_OFFER {
+        if let Some(wait) = seg.wait(number) {
+            if offers == k {
+                return Some((number, wait));
+            }
+            offers += 1;
+        }
+    }
+    None
+}
+
 /// Replaces the content of the line by the k-th line from 0 of the summary of the ticks that were played: when all
-/// statuses were first OK, and then what was counted at each node, the nodes ascending. It answers false, with the line
-/// empty, exactly where there is no such line. A summary has at most 17 lines.
+/// statuses were first OK, then what was counted at each node, the nodes ascending, and then what has become of each
+/// offer, the offers ascending. It answers false, with the line empty, exactly where there is no such line. A summary
+/// has at most 4113 lines.
 pub fn summary_line(out: &mut Line, seg: &Segment, k: u32) -> bool
     ensures answer { (s : Script) (t : ℕ) → Stands s t seg.now → result ≡ nat_lt k (length (summary_lines_below s t)) }
     ensures line { (s : Script) (t : ℕ) → Stands s t seg.now → out.new ≡ get_or (summary_lines_below s t) k [] }
-    ensures few { IsTrue result → k < 17 }
+    ensures few { IsTrue result → k < 4113 }
 {
     if k == 0 {
         settled_line(out, seg.settled());
         return true;
     }
-    match totals_at(seg, k - 1) {
-        Some(totals) => {
-            node_line(out, &totals);
-            true
-        }
-        None => {
-            clear(out);
-            false
-        }
+    let at = k - 1;
+    if let Some(totals) = totals_at(seg, at) {
+        node_line(out, &totals);
+        return true;
     }
+    if let Some((number, wait)) = wait_at(seg, at.saturating_sub(node_count(seg))) {
+        offer_line(out, number, wait);
+        return true;
+    }
+    clear(out);
+    false
 }

@@ -59,7 +59,7 @@ impl<'a, K: Sink> Watch for Writer<'a, K> {
     ghost sees = { λ before event after. WriterStep K.written K.faults K.finished before (event_line event) after };
 
     /// Writes the line of the event.
-    fn event(&mut self, e: &Event) {
+    fn event(&mut self, e: &Event<'_>) {
         event_line(&mut self.line, e);
         if !self.stopped {
             self.stopped = self.sink.write(self.line.as_slice()).is_err();

@@ -1,5 +1,6 @@
 use Rattle.std.proofs.Common.{codes, decimal}
-use Rattle.t1s_report.specs.ItemLines.{closer_name, kind_text}
+use Rattle.t1s_report.specs.ArrivalTexts.{kind_text}
+use Rattle.t1s_report.specs.ItemLines.{closer_name}
 use Rattle.t1s_report.proofs.Counts.{five_counts}
 use Rattle.t1s_report.proofs.item_lines.piece_line.Goals as goal
 

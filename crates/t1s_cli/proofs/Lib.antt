@@ -4,6 +4,7 @@ pub mod TaskAnswers
 pub mod ScriptCalls
 pub mod WholeInput
 mod ThinScripts
+mod ScriptRuns
 pub mod DecodeEnds
 pub mod FedPieces
 pub mod CaptureCalls

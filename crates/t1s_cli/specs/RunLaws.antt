@@ -2,11 +2,14 @@
 use Rattle.std.specs.Prelude.{◌≡◌, ◌↔◌, ℕ, ◌+◌, ◌-◌, ◌*◌, ◌%◌, ◌<◌, ◌≤◌, min, true, List, Some}
 use Rattle.t1s_symbols.specs.declared.Symbol.TheVariants.{N}
 use Rattle.t1s_world.specs.Drives.{IsDrive}
+use Rattle.t1s_script.specs.Fit.{IsFit}
 use Rattle.t1s_script.specs.ThinForm.{has_thin_form}
 use Rattle.t1s_script.specs.declared.script.Script.{Script}
 use Rattle.t1s_script.specs.declared.script.NodeLine.{NodeLine}
 use Rattle.t1s_line.specs.World.{driven_in}
 use Rattle.t1s_line.specs.Beacons.{IsLoneCoordinator}
+use Rattle.t1s_schedule.specs.ScheduledRun.{SharesLine}
+use Rattle.t1s_delivery.specs.Delivered.{IsDelivered}
 
 -- beacon k starts at tick a and ends before tick e: it lasts 20 ticks, or to the end of the run
 pub record IsThinBeacon (s : Script) (k a e : ℕ) : Type 0 where
@@ -24,6 +27,10 @@ pub record DrivesAreThinBeacons (s : Script) (z : ℕ) : Type 0 where
 abbrev pub HasBeacons : Script → Type 0
 HasBeacons s = (z : ℕ) (line : NodeLine) → IsLoneCoordinator s z line → DrivesAreThinBeacons s z
 
--- what holds of the run of the script that these octets are read to, whatever is written of it
+-- What holds of the run of the script that these octets are read to, whatever is written of it. Where it is fit, no two drives overlap
+-- at any point of the cable, and each frame accepted once every PLCA status is OK starts within its stated number of bit times and
+-- reaches every other MAC exactly once, unchanged, if the script's end leaves room for both; and nothing else arrives.
 pub record RunLaws (octets : List ℕ) (s : Script) : Type 0 where
+  pub shares_line : IsFit s → SharesLine s s.end
+  pub delivers : IsFit s → IsDelivered s s.end
   pub beacons : has_thin_form octets ≡ true → HasBeacons s

@@ -5,7 +5,7 @@ use Rattle.std.specs.declared.string.String.{String}
 use Rattle.std.proofs.Common.{Global}
 use Rattle.t1s_base.specs.Limits.{last_node}
 use Rattle.t1s_cli.specs.declared.commands.ScriptTask.{ScriptTask}
-use Rattle.t1s_cli.specs.declared.commands.ScriptTask.TheVariants.{Run, Check, Capture}
+use Rattle.t1s_cli.specs.declared.commands.ScriptTask.TheVariants.{Run, Check, Json, Capture}
 use Rattle.t1s_cli.specs.declared.commands.CaptureTask.{CaptureTask}
 use Rattle.t1s_cli.specs.declared.commands.CaptureTask.TheVariants.{Decode}
 
@@ -13,6 +13,7 @@ use Rattle.t1s_cli.specs.declared.commands.CaptureTask.TheVariants.{Decode}
 abbrev pub AreTask : List (String Global) → ScriptTask → Type 0
 AreTask words Run = map string_bytes words ≡ codes "run" ∷ []
 AreTask words Check = map string_bytes words ≡ codes "check" ∷ []
+AreTask words Json = map string_bytes words ≡ codes "json" ∷ []
 AreTask words (Capture node) = (node ≤ last_node) × (map string_bytes words ≡ codes "capture" ∷ decimal node ∷ [])
 
 -- the words ask for this task with a capture

@@ -13,24 +13,13 @@ ghost use Rattle.t1s_cli.specs.TextOutcome.{TextOutcome};
 use crate::run_command::goes_on;
 use crate::status::Status;
 use crate::text_end::finish;
+use crate::unread::Unread;
 use std::alloc::Global;
 use t1s_base::{Failed, Sink};
 use t1s_capture::CaptureWriter;
-use t1s_line::{Event, Watch};
 use t1s_report::Writer;
 use t1s_script::Script;
 use t1s_segment::Segment;
-
-/// A watch that nobody reads.
-#[derive(Drop)]
-struct Unread;
-
-impl Watch for Unread {
-    ghost sees = { λ _ _ _. Unit {0} };
-
-    /// Does nothing.
-    fn event(&mut self, _: &Event) {}
-}
 
 /// Plays the segment to its end and writes what the node hears, up to a write that stops: the header, at most one
 /// text in each tick, and the last octets.

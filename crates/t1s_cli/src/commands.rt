@@ -14,6 +14,8 @@ pub(crate) enum ScriptTask {
     Run,
     /// `check`: writes whether it is fit.
     Check,
+    /// `json`: writes the summary of its run as a JSON object.
+    Json,
     /// `capture K`: writes what the node with this number hears in its run.
     Capture(u8),
 }
@@ -58,6 +60,9 @@ pub(crate) fn command_of(words: &[String]) -> Option<Command>
         }
         [word] if word.as_bytes() == b"check".as_slice() => {
             Some(Command::OnScript(ScriptTask::Check))
+        }
+        [word] if word.as_bytes() == b"json".as_slice() => {
+            Some(Command::OnScript(ScriptTask::Json))
         }
         [word] if word.as_bytes() == b"decode".as_slice() => {
             Some(Command::OnCapture(CaptureTask::Decode))

@@ -14,12 +14,14 @@ mod capture_command;
 mod check_command;
 mod commands;
 mod decode_command;
+mod json_command;
 mod program;
 mod run_command;
 mod script_commands;
 mod script_input;
 mod status;
 mod text_end;
+mod unread;
 
 pub use program::workbench;
 pub use run_command::play;
@@ -28,6 +30,14 @@ pub use status::Status;
 #[cfg(test)]
 mod capture_tests;
 #[cfg(test)]
+mod collision_rows;
+#[cfg(test)]
 mod decode_tests;
+#[cfg(test)]
+mod json_tests;
+#[cfg(test)]
+mod offer_rows;
+#[cfg(test)]
+mod offer_tests;
 #[cfg(test)]
 mod tests;

@@ -9,6 +9,7 @@ ghost use Rattle.t1s_cli.specs.TextOutcome.{TextOutcome};
 use crate::capture_command::capture_script;
 use crate::check_command::check_script;
 use crate::commands::ScriptTask;
+use crate::json_command::json_script;
 use crate::run_command::run_script;
 use crate::script_input::{ReadStop, read_whole};
 use crate::status::Status;
@@ -48,6 +49,7 @@ fn do_task<K: Sink>(alloc: Global, task: ScriptTask, script: &Script, sink: &mut
     match task {
         ScriptTask::Run => run_script(alloc, script, sink),
         ScriptTask::Check => check_script(script, sink),
+        ScriptTask::Json => json_script(alloc, script, sink),
         ScriptTask::Capture(node) => {
             if has_node(script, node) {
                 capture_script(alloc, node, script, sink)

@@ -8,7 +8,7 @@ use t1s_base::{Failed, MemSink, MemSource, QuietSource, Source};
 use t1s_script::read_script;
 use t1s_segment::Segment;
 
-const SCRIPT: &[u8] = b"t1s 1\ncount 3\nnode 0 0 0\nnode 1 1 2\nnode 2 2 5\nend 9000\n";
+pub(crate) const SCRIPT: &[u8] = b"t1s 1\ncount 3\nnode 0 0 0\nnode 1 1 2\nnode 2 2 5\nend 9000\n";
 
 const REPORT: &[u8] =
     b"8256 status 0 ok\n8256 beacon 0\n8276 quiet 0\n8282 status 1 ok\n8285 status 2 ok\n\
@@ -19,14 +19,17 @@ node 0 sent 0 full 0 jam 0 drop 0 good 0 bad 0 clash 0\n\
 node 1 sent 0 full 0 jam 0 drop 0 good 0 bad 0 clash 0\n\
 node 2 sent 0 full 0 jam 0 drop 0 good 0 bad 0 clash 0\n";
 
-const EARLY: &[u8] = b"t1s 1\ncount 3\nnode 0 0 0\nnode 1 1 2\nnode 2 2 5\nend 8256\n";
+pub(crate) const EARLY: &[u8] = b"t1s 1\ncount 3\nnode 0 0 0\nnode 1 1 2\nnode 2 2 5\nend 8256\n";
 
 const NEVER_SETTLED: &[u8] = b"settled never\n\
 node 0 sent 0 full 0 jam 0 drop 0 good 0 bad 0 clash 0\n\
 node 1 sent 0 full 0 jam 0 drop 0 good 0 bad 0 clash 0\n\
 node 2 sent 0 full 0 jam 0 drop 0 good 0 bad 0 clash 0\n";
 
-const NO_END: &[u8] = b"t1s 1\ncount 3\nnode 0 0 0\nnode 1 1 2\nnode 2 2 5\n";
+pub(crate) const NO_END: &[u8] = b"t1s 1\ncount 3\nnode 0 0 0\nnode 1 1 2\nnode 2 2 5\n";
+
+/// The room of a sink, in octets.
+const ROOM: usize = 65_536;
 
 /// The words, each one owned.
 fn owned(alloc: Global, words: &[&str]) -> Result<Vec<String>, AllocError> {
@@ -45,7 +48,7 @@ pub(crate) fn call<S: Source + Drop>(
     fails: &[u64],
 ) -> Result<(Status, Vec<u8>), AllocError> {
     let words = owned(alloc, words)?;
-    let mut sink = MemSink::with_room(alloc, 4096, Vec::from_slice(alloc, fails)?)?;
+    let mut sink = MemSink::with_room(alloc, ROOM, Vec::from_slice(alloc, fails)?)?;
     let status = workbench(alloc, words.as_slice(), &mut source, &mut sink);
     Ok((status, Vec::from_slice(alloc, sink.written())?))
 }
@@ -136,10 +139,11 @@ fn refusals_of_scripts_are_written(rt: HostRuntime) -> Result<(), Fail> {
 
 #[test]
 fn other_words_are_usage(rt: HostRuntime) -> Result<(), Fail> {
-    let wrong: [&[&str]; 9] = [
+    let wrong: [&[&str]; 10] = [
         &[],
         &["run", "run"],
         &["check", "check"],
+        &["json", "json"],
         &["decode", "0"],
         &["capture"],
         &["capture", "16"],

@@ -20,6 +20,19 @@ pub(crate) fn finish<K: Sink>(sink: &mut K, whole: Status) -> Status
     }
 }
 
+/// Writes octets that are the rest of a text, by one `write` call, and finishes the sink.
+pub(crate) fn write_text<K: Sink>(octets: &[u8], sink: &mut K, whole: Status) -> Status
+    requires no_fault { whole ≢ Status.WriteFault }
+    requires no_memory { whole ≢ Status.Memory }
+    ensures outcome { TextOutcome K.written K.faults K.finished whole octets.now sink.old sink.new result }
+    ensures takes_none { result ≢ Status.Memory }
+{
+    match sink.write(octets) {
+        Ok(()) => finish(sink, whole),
+        Err(_) => Status::WriteFault,
+    }
+}
+
 /// Writes the last line of a text, and finishes the sink.
 pub(crate) fn write_last<K: Sink>(line: &Line, sink: &mut K, whole: Status) -> Status
     requires no_fault { whole ≢ Status.WriteFault }
@@ -27,8 +40,5 @@ pub(crate) fn write_last<K: Sink>(line: &Line, sink: &mut K, whole: Status) -> S
     ensures outcome { TextOutcome K.written K.faults K.finished whole line.now sink.old sink.new result }
     ensures takes_none { result ≢ Status.Memory }
 {
-    match sink.write(line.as_slice()) {
-        Ok(()) => finish(sink, whole),
-        Err(_) => Status::WriteFault,
-    }
+    write_text(line.as_slice(), sink, whole)
 }

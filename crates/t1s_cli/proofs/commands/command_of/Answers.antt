@@ -5,7 +5,7 @@ use Rattle.std.specs.Prelude.{◌↔◌}
 use Rattle.t1s_cli.specs.declared.commands.Command.{Command}
 use Rattle.t1s_cli.specs.declared.commands.Command.TheVariants.{OnScript, OnCapture}
 use Rattle.t1s_cli.specs.declared.commands.ScriptTask.{ScriptTask}
-use Rattle.t1s_cli.specs.declared.commands.ScriptTask.TheVariants.{Run, Check, Capture}
+use Rattle.t1s_cli.specs.declared.commands.ScriptTask.TheVariants.{Run, Check, Json, Capture}
 use Rattle.t1s_cli.specs.declared.commands.CaptureTask.{CaptureTask}
 use Rattle.t1s_cli.specs.declared.commands.CaptureTask.TheVariants.{Decode}
 use Rattle.t1s_cli.specs.Words.{AreTask, AreCaptureTask}
@@ -21,12 +21,20 @@ one_word (w ∷ v ∷ words) word octets l h at same = absurd (omega arith)
 run_row : (words : List (String Global)) → map string_bytes words ≡ codes "run" ∷ [] → (task : ScriptTask) → (◌≡◌ {A = Option Command} (Some (OnScript Run)) (Some (OnScript task))) ↔ AreTask words task
 run_row words is Run = (λ _. is, λ _. refl)
 run_row words is Check = (λ e. absurd cc, λ h. absurd (let z = sym is ∙ h in cc))
+run_row words is Json = (λ e. absurd cc, λ h. absurd (let z = sym is ∙ h in cc))
 run_row words is (Capture node) = (λ e. absurd cc, λ h. absurd (let z = sym is ∙ h.1 in cc))
 
 check_row : (words : List (String Global)) → map string_bytes words ≡ codes "check" ∷ [] → (task : ScriptTask) → (◌≡◌ {A = Option Command} (Some (OnScript Check)) (Some (OnScript task))) ↔ AreTask words task
 check_row words is Run = (λ e. absurd cc, λ h. absurd (let z = sym is ∙ h in cc))
 check_row words is Check = (λ _. is, λ _. refl)
+check_row words is Json = (λ e. absurd cc, λ h. absurd (let z = sym is ∙ h in cc))
 check_row words is (Capture node) = (λ e. absurd cc, λ h. absurd (let z = sym is ∙ h.1 in cc))
+
+json_row : (words : List (String Global)) → map string_bytes words ≡ codes "json" ∷ [] → (task : ScriptTask) → (◌≡◌ {A = Option Command} (Some (OnScript Json)) (Some (OnScript task))) ↔ AreTask words task
+json_row words is Run = (λ e. absurd cc, λ h. absurd (let z = sym is ∙ h in cc))
+json_row words is Check = (λ e. absurd cc, λ h. absurd (let z = sym is ∙ h in cc))
+json_row words is Json = (λ _. is, λ _. refl)
+json_row words is (Capture node) = (λ e. absurd cc, λ h. absurd (let z = sym is ∙ h.1 in cc))
 
 decode_row : (words : List (String Global)) → map string_bytes words ≡ codes "decode" ∷ [] → (task : CaptureTask) → (◌≡◌ {A = Option Command} (Some (OnCapture Decode)) (Some (OnCapture task))) ↔ AreCaptureTask words task
 decode_row words is Decode = (λ _. is, λ _. refl)
@@ -40,6 +48,7 @@ capture_row : (words : List (String Global)) (number : List ℕ) (node : ℕ) �
     (task : ScriptTask) → (◌≡◌ {A = Option Command} (Some (OnScript (Capture node))) (Some (OnScript task))) ↔ AreTask words task
 capture_row words number node is reads Run = (λ e. absurd cc, λ h. absurd (let z = sym is ∙ h in cc))
 capture_row words number node is reads Check = (λ e. absurd cc, λ h. absurd (let z = sym is ∙ h in cc))
+capture_row words number node is reads Json = (λ e. absurd cc, λ h. absurd (let z = sym is ∙ h in cc))
 capture_row words number node is reads (Capture n) = (
   λ e.
       let same : node ≡ n = cc in
@@ -60,10 +69,15 @@ returns-in-len1-2-clause-script c =
     let same : string_bytes c.word-item-then-words-lt2.result ≡ codes "check" = search rules in
     check_row c.args.words.now (one_word c.args.words.now c.word-item-then-words-lt2.result (codes "check") c.in-len1.len_at_least c.in-len1.len_below c.word-item-then-words-lt2.is same)
 
-pub returns-in-len1-3-clause-capture : goal.returns-in-len1-3-clause-capture
-returns-in-len1-3-clause-capture c =
-    let same : string_bytes c.word-item-then-words-lt2-2.result ≡ codes "decode" = search rules in
-    decode_row c.args.words.now (one_word c.args.words.now c.word-item-then-words-lt2-2.result (codes "decode") c.in-len1.len_at_least c.in-len1.len_below c.word-item-then-words-lt2-2.is same)
+pub returns-in-len1-3-clause-script : goal.returns-in-len1-3-clause-script
+returns-in-len1-3-clause-script c =
+    let same : string_bytes c.word-item-then-words-lt2-2.result ≡ codes "json" = search rules in
+    json_row c.args.words.now (one_word c.args.words.now c.word-item-then-words-lt2-2.result (codes "json") c.in-len1.len_at_least c.in-len1.len_below c.word-item-then-words-lt2-2.is same)
+
+pub returns-in-len1-4-clause-capture : goal.returns-in-len1-4-clause-capture
+returns-in-len1-4-clause-capture c =
+    let same : string_bytes c.word-item-then-words-lt2-3.result ≡ codes "decode" = search rules in
+    decode_row c.args.words.now (one_word c.args.words.now c.word-item-then-words-lt2-3.result (codes "decode") c.in-len1.len_at_least c.in-len1.len_below c.word-item-then-words-lt2-3.is same)
 
 two_words : (words : List (String Global)) (word number : String Global) → 2 ≤ length words → length words < 3 → word ≡ get_or words 0 word → number ≡ get_or words 1 number →
     map string_bytes words ≡ string_bytes word ∷ string_bytes number ∷ []

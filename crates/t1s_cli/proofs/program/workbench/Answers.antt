@@ -9,7 +9,7 @@ use Rattle.t1s_cli.specs.declared.commands.CaptureTask.TheVariants.{Decode}
 use Rattle.t1s_cli.specs.Words.{AreTask}
 use Rattle.t1s_cli.proofs.CaptureCalls.{says_done, says_refused, says_prefix, says_failed, capture_done, offence_refused}
 use Rattle.t1s_cli.proofs.ScriptCalls.{script_no_usage, script_write_fault, script_silent, script_finishes, script_read_whole, script_text, script_refusal, script_prefix, script_rest, script_calm}
-use Rattle.t1s_cli.proofs.ThinScripts.{run_laws}
+use Rattle.t1s_cli.proofs.ScriptRuns.{run_laws}
 use Rattle.t1s_cli.proofs.program.workbench.Given.{Over}
 use Rattle.t1s_cli.proofs.program.workbench.Goals as goal
 

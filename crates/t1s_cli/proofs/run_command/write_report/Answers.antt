@@ -1,4 +1,5 @@
-use Rattle.std.proofs.Common.{◌≡◌, ◌+◌, ◌⊎◌, true, rules}
+use Rattle.std.proofs.Common.{◌≡◌, ℕ, ◌+◌, ◌⊎◌, inl, inr, true, subst, rules}
+use Rattle.t1s_segment.specs.Stands.{Stands}
 use Rattle.t1s_report.proofs.WriterSteps.{step_no_tick, step_tick, step_report}
 use Rattle.t1s_cli.proofs.run_command.write_report.Goals as goal
 
@@ -15,3 +16,12 @@ returns-clause-text g c s first =
     let (t, stands, so_far) = c.loop-seg.invariant s first in
     let why : (c.loop-seg.writer.stopped ≡ true) ⊎ (t ≡ s.end) = c.goes_on.ensures.no_more s t stands (search rules) in
     step_report g.K.Sink.written g.K.Sink.faults g.K.Sink.finished s t c.args.writer.now c.loop-seg.writer c.write_summary.new.writer stands.in_time why so_far (c.write_summary.ensures s t stands)
+
+pub returns-clause-at_end : goal.returns-clause-at_end
+returns-clause-at_end g c s first on =
+    let (t, stands, so_far) = c.loop-seg.invariant s first in
+    let why : (c.loop-seg.writer.stopped ≡ true) ⊎ (t ≡ s.end) = c.goes_on.ensures.no_more s t stands (search rules) in
+    elim why [
+      | inl stop ↦ absurd (let still = ((c.write_summary.ensures s t stands).idle stop).0 in cc)
+      | inr e ↦ subst (λ (u : ℕ). Stands s u c.loop-seg.seg) e stands
+    ]

@@ -7,10 +7,10 @@ use Rattle.t1s_report.specs.WriterStep.{WriterStep}
 use Rattle.t1s_cli.proofs.run_command.write_summary.Given as goal
 
 abbrev pub decreases-loop-line : goal.decreases-loop-line
-decreases-loop-line g l = 17 - l.k
+decreases-loop-line g l = 4113 - l.k
 
 abbrev pub invariant-loop-line : goal.invariant-loop-line
 invariant-loop-line g l = record {
-  few : l.k ≤ 17;
+  few : l.k ≤ 4113;
   lines : (s : Script) (t : ℕ) → Stands s t l.seg → WriterStep g.K.Sink.written g.K.Sink.faults g.K.Sink.finished l.fn.writer (concat (take l.k (summary_lines_below s t))) l.writer;
 }

@@ -1,0 +1,10 @@
+use Rattle.std.proofs.Common.{ℕ}
+use Rattle.t1s_script.specs.declared.script.Script.{Script}
+use Rattle.t1s_segment.specs.Stands.{Stands, ticks_left}
+use Rattle.t1s_cli.proofs.unread.play_unread.Given as goal
+
+abbrev pub decreases-loop-seg : goal.decreases-loop-seg
+decreases-loop-seg l = ticks_left l.seg
+
+abbrev pub invariant-loop-seg : goal.invariant-loop-seg
+invariant-loop-seg l = (s : Script) → Stands s 0 l.initial.seg → (t : ℕ) × Stands s t l.seg

@@ -22,14 +22,22 @@ END {
   print "  " sentence()
 }
 
-# Keeps where each word stood before, and which nodes there are.
+# Keeps where each word stood before, which nodes there are, and the last timed line.
 function note_line(    part) {
   split($0, part, " ")
   if (FNR < place || place == 0) {
     if (!(part[1] in first_at)) first_at[part[1]] = FNR
     if (!((part[1], part[2]) in first_of)) first_of[part[1], part[2]] = FNR
     if (part[1] == "node") nodes = nodes (nodes == "" ? "" : ", ") part[2]
+    if (is_timed(part[1])) {
+      timed_at = FNR
+      timed_tick = part[2]
+    }
   }
+}
+
+function is_timed(word) {
+  return word != "end" && fields_of[word] ~ /^ *T=/
 }
 
 # Splits at each space, so that empty fields count.
@@ -64,17 +72,26 @@ function carets(n,    marks) {
 function bad_field(    wanted, many, i) {
   if (reason == "UnknownWord" || reason == "AfterEnd" || reason == "FirstLine") return 1
   if (reason == "Form") return empty_field()
-  if (reason == "UnknownNode") return place > 0 ? number_of_node() : 0
+  if (reason == "UnknownNode" || reason == "TooMany") return place > 0 ? place_of("^NO=") : 0
+  if (reason == "Hex") return place_of("=hex$")
+  if (reason == "FrameSize") return place_of("^(LEN|HEX)=")
+  if (reason == "Order") return place_of("^T=")
   many = split(fields_of[field[1]], wanted, " ")
-  for (i = 1; i <= many; i++)
-    if (reason == "Number" ? !is_number(field[i + 1]) : reason == "OutOfRange" && !is_within(field[i + 1], wanted[i])) return i + 1
+  for (i = 1; i <= many; i++) if (breaks(field[i + 1], wanted[i])) return i + 1
   return 0
 }
 
-# The place of the number of the node that a line is of: the first field with the name NO.
-function number_of_node(    wanted, many, i) {
+# Whether a field breaks the rule on numbers or the one on their ranges. LEN has no range of its own, only a frame has.
+function breaks(text, wanted) {
+  if (wanted ~ /=hex$/) return 0
+  if (reason == "Number") return !is_number(text)
+  return reason == "OutOfRange" && wanted !~ /^LEN=/ && !is_within(text, wanted)
+}
+
+# The place of the first field whose name and range are of that form, or 0.
+function place_of(form,    wanted, many, i) {
   many = split(fields_of[field[1]], wanted, " ")
-  for (i = 1; i <= many; i++) if (wanted[i] ~ /^NO=/) return i + 1
+  for (i = 1; i <= many; i++) if (wanted[i] ~ form) return i + 1
   return 0
 }
 
@@ -101,7 +118,7 @@ function name_of(bad,    wanted) {
 # 'NO ID PLACE' of the fields of a word.
 function names_of(word,    names) {
   names = fields_of[word]
-  gsub(/=[0-9-]*/, "", names)
+  gsub(/=[^ ]*/, "", names)
   return names
 }
 
@@ -121,8 +138,12 @@ function sentence(    bad, wanted) {
   if (reason == "Form") return form()
   if (reason == "Number") return half(wanted, 1) " of " quoted(field[1]) " is a number, one to ten decimal digits without a leading zero, and " quoted(field[bad]) " is none" carriage_return()
   if (reason == "OutOfRange") return half(wanted, 1) " of " quoted(field[1]) " is " range(wanted) ", and " quoted(field[bad]) " is outside"
+  if (reason == "Hex") return half(wanted, 1) " of " quoted(field[1]) " " hex()
+  if (reason == "FrameSize") return frame_size()
   if (reason == "Twice") return twice()
   if (reason == "UnknownNode") return unknown_node()
+  if (reason == "Order") return order()
+  if (reason == "TooMany") return too_many()
   if (reason == "NoNode") return "a script has at least one `node` line, and none stands before `end`"
   if (reason == "NoEnd") return "a script ends with a line `end T`, and this one has none"
   return "docs/formats.md has the rule"
@@ -164,6 +185,29 @@ function form(    many, wanted) {
     (empty_field() ? ", as an empty one counts" : "")
 }
 
+function hex(    digits) {
+  digits = field[bad_field()]
+  sub(/\r$/, "", digits)
+  if (field[1] == "fill") return "is two hex digits, and " quoted(digits) " is not" carriage_return()
+  if (digits ~ /[^0-9A-Fa-f]/) return "has hex digits alone, and `" substr(digits, match(digits, /[^0-9A-Fa-f]/), 1) "` is none" carriage_return()
+  return "has two hex digits for each octet, and " length(digits) " is an odd number of digits" carriage_return()
+}
+
+function frame_size(    octets) {
+  octets = field[1] == "fill" ? field[bad_field()] : length(field[bad_field()]) / 2
+  return "a frame has 14 to 1518 octets without its frame check sequence, and this one has " octets
+}
+
+function order() {
+  if (field[1] == "end") return "`end` is above the tick of each timed line, and line " timed_at " has the tick " timed_tick
+  return "timed lines stand in the order of their ticks, and line " timed_at " above has the tick " timed_tick
+}
+
+function too_many() {
+  if (field[1] == "draw") return "a node has at most 64 `draw` lines, and 64 of node " field[2] " stand above"
+  return "a script has at most 4096 timed lines, and as many stand above"
+}
+
 function twice(    wanted) {
   split(fields_of[field[1]], wanted, " ")
   if (wanted[1] ~ /^NO=/) return quoted(field[1]) " may stand once for a node, and that of node " field[2] " stands in line " first_of[field[1], field[2]] " already"
@@ -172,5 +216,5 @@ function twice(    wanted) {
 
 function unknown_node() {
   if (place == 0) return "the script has no node of that number, which `" command "` names; its nodes are " nodes
-  return "no `node` line of node " field[number_of_node()] " stands above" (nodes == "" ? "" : "; above stand the nodes " nodes)
+  return "no `node` line of node " field[place_of("^NO=")] " stands above" (nodes == "" ? "" : "; above stand the nodes " nodes)
 }

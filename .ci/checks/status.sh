@@ -50,6 +50,10 @@ run run </dev/null
 row "run on no input" 1 "refused 1 FirstLine$newline"
 run check </dev/null
 row "check on no input" 1 "refused 1 FirstLine$newline"
+run json <examples/one_frame/script.t1s
+row "json" 0 "$(cat examples/one_frame/json.txt)$newline"
+run json </dev/null
+row "json on no input" 1 "refused 1 FirstLine$newline"
 run capture 7 <$script
 row "capture of a node that is not there" 1 "refused 0 UnknownNode$newline"
 run decode </dev/null
@@ -68,7 +72,7 @@ row "a word that is not UTF-8" 2 ""
 run run "$(printf '\303')" <$script
 row "a second word that is not UTF-8" 2 ""
 
-for words in run check "capture 2" decode; do
+for words in run check json "capture 2" decode; do
   # shellcheck disable=SC2086  # the words are split on purpose
   run $words <.
   row "$words where standard input is a folder" 3 ""

@@ -2,11 +2,12 @@
 _t1s() {
     local word=${COMP_WORDS[COMP_CWORD]} command=${COMP_WORDS[1]-} words='' first=99
     if [ "$COMP_CWORD" -eq 1 ]; then
-        words='run check capture decode help install --help --version'
+        words='run check json capture decode help install --help --version'
     else
         case $command in
         run) words='--summary --events' ;;
         check) words='' ;;
+        json) words='' ;;
         capture) words='--force' ;;
         decode) words='' ;;
         help) words='' ;;
@@ -15,11 +16,12 @@ _t1s() {
         case $command in
         run) first=2 ;;
         check) first=2 ;;
+        json) first=2 ;;
         capture) first=3 ;;
         decode) first=2 ;;
         install) compopt -o dirnames 2>/dev/null ;;
         esac
-        [ "$command" != help ] || words='run check capture decode help install '
+        [ "$command" != help ] || words='run check json capture decode help install '
     fi
     COMPREPLY=($(compgen -W "$words" -- "$word"))
     if [ "$COMP_CWORD" -ge "$first" ]; then compopt -o default 2>/dev/null; fi

@@ -1,3 +1,4 @@
 pub mod InRange
 pub mod Quarters
+pub mod CalmSteps
 pub mod Pairs

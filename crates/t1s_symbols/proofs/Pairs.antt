@@ -3,12 +3,12 @@ use Rattle.std.proofs.Common.{refl, ◌≡◌, ℕ, Bool, true, false, not, ◌&
 use Rattle.std.specs.Prelude.{IsTrue}
 use Rattle.std.specs.List.{list_any}
 use Rattle.std.proofs.lemmas.Grind.{common_steps}
-use Rattle.std.proofs.lemmas.Bool.{agree_below_at, eqb-true, and_parts}
+use Rattle.std.proofs.lemmas.Bool.{agree_below_at, eqb-true, and_parts, or_right}
 use Rattle.t1s_symbols.specs.declared.Symbol.{Symbol}
 use Rattle.t1s_symbols.specs.declared.Symbol.TheVariants.{Nibble, J, K, T, R, H, N, S}
 use Rattle.t1s_symbols.specs.Ranges.{IsSymbol, symbol_in_range}
 use Rattle.t1s_symbols.proofs.InRange.{symbol_from_range}
-use Rattle.t1s_symbols.proofs.Quarters.{same_symbol-sound}
+use Rattle.t1s_symbols.proofs.Quarters.{same_symbol-sound, same_symbol-refl}
 use Rattle.t1s_symbols.specs.GroupTable.{group, group_table, symbol, symbol_in, IsPair}
 use Rattle.t1s_symbols.specs.Symbols.{same_symbol}
 
@@ -60,6 +60,25 @@ pub symbol-of_pair : (s : Symbol) (g : ℕ) → IsPair s g → symbol g ≡ Some
 unfolding IsPair symbol
 symbol-of_pair s g p = symbol_in-of_pair group_table s g refl p
 
+-- the first row has the symbol and the group, or a later row has them
+row_with : (here later : Bool) (x s : Symbol) (o : Option Symbol)
+    → (o ≡ Some s → later ≡ true) → (if here then Some x else o) ≡ Some s → (same_symbol s x && here) || later ≡ true
+row_with true later x s o below e =
+    let is_x : x ≡ s = cc in
+    let same : same_symbol s x ≡ true = rw is_x (same_symbol-refl s) in
+    grind (arith, common_steps)
+row_with false later x s o below e = or_right (same_symbol s x && false) later (below e)
+
+has_pair_in : (rows : List (Symbol × ℕ)) (s : Symbol) (g : ℕ) → symbol_in rows g ≡ Some s → has_pair rows s g ≡ true
+has_pair_in [] s g e = cc
+has_pair_in (pair ∷ pairs) s g e =
+    row_with (g == pair.1) (has_pair pairs s g) pair.0 s (symbol_in pairs g) (has_pair_in pairs s g) e
+
+-- a symbol that is read for a group stands in a row with it
+pub pair_of_symbol : (s : Symbol) (g : ℕ) → symbol g ≡ Some s → IsPair s g
+unfolding IsPair symbol
+pair_of_symbol s g e = has_pair_in group_table s g e
+
 -- whether a reading of a group is this symbol
 abbrev reads : Symbol → Option Symbol → Bool
 reads s None = false
@@ -81,6 +100,10 @@ symbol-group R h = refl
 symbol-group H h = refl
 symbol-group N h = refl
 symbol-group S h = refl
+
+-- a symbol stands in a row with its group
+pub pair_of_group : (s : Symbol) → IsSymbol s → IsPair s (group s)
+pair_of_group s h = pair_of_symbol s (group s) (symbol-group s h)
 
 -- whether a reading of the group g, if there is one, is in range and has that group
 abbrev has : ℕ → Option Symbol → Bool

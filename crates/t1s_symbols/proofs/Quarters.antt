@@ -7,7 +7,6 @@ use Rattle.t1s_symbols.specs.declared.Symbol.{Symbol}
 use Rattle.t1s_symbols.specs.declared.Symbol.TheVariants.{Nibble, J, K, T, R, H, N, S}
 use Rattle.t1s_symbols.specs.declared.Quarter.{Quarter}
 use Rattle.t1s_symbols.specs.Symbols.{same_symbol}
-use Rattle.t1s_symbols.specs.declared.QuarterReading.{QuarterReading}
 use Rattle.t1s_symbols.specs.declared.QuarterReading.TheVariants.{Broken, Partial, Complete}
 use Rattle.t1s_symbols.specs.Quarters.{continues, continues_last, quarter_reading}
 

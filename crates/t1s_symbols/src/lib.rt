@@ -127,7 +127,7 @@ macro_rules! groups {
 
 /// The 5B group of a symbol. The whole table, nibbles and control symbols alike, is a closed list of this
 /// project's own: that IEEE 802.3 clause 147 gives a group the use named here isn't claimed.
-#[tactic(auto, unfolding(crate::specs::GroupTable::IsPair, crate::specs::GroupTable::group))]
+#[tactic(auto, unfolding(crate::specs::GroupTable::group), using(crate::proofs::Pairs::pair_of_group))]
 pub fn group_of(s: Symbol) -> u8
     requires { IsSymbol s }
     ensures pair { IsPair s result }
@@ -140,7 +140,7 @@ pub fn group_of(s: Symbol) -> u8
 /// nothing, and for every number above 0x1F.
 // Kept apart from its callers, it is compiled to a look-up and not to a jump.
 #[inline(never)]
-#[tactic(auto, unfolding(crate::specs::GroupTable::IsPair, crate::specs::GroupTable::symbol))]
+#[tactic(auto, unfolding(crate::specs::GroupTable::symbol), using(crate::proofs::Pairs::pair_of_symbol))]
 pub fn symbol_of(group: u8) -> Option<Symbol>
     ensures symbol { result ≡ symbol group }
     ensures pair { IfSome result (λ s. IsPair s group) }

@@ -4,3 +4,4 @@ pub mod Beginnings
 pub mod Faults
 pub mod Sent
 pub mod Text
+pub mod RunPieces

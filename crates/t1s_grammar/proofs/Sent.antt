@@ -49,7 +49,7 @@ IsCloser-sent : (good : Bool) → IsCloser (sent_closer good)
 IsCloser-sent true = tt
 IsCloser-sent false = tt
 
-sent-in_range : (lead : ℕ) (past : List Bool) (octets : List ℕ) (good : Bool) → 2 ≤ lead → lead ≤ 4096 → IsFrame octets
+pub sent-in_range : (lead : ℕ) (past : List Bool) (octets : List ℕ) (good : Bool) → 2 ≤ lead → lead ≤ 4096 → IsFrame octets
     → IsPieceInRange (sent_piece lead past octets good)
 sent-in_range lead past octets good least most h =
     let fewest : 64 ≤ length octets = h.shortest in

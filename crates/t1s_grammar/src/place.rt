@@ -99,6 +99,7 @@ impl Place {
     /// Takes the next symbol. It is refused exactly where the symbols with it begin no burst: as `TooLong` where it is
     /// the 3057th nibble of a piece, the 4097th J in a row, or the first H of the 4097th piece after at least two J,
     /// and as `NotHere` in all other cases.
+    #[inline(always)]
     pub fn take(self, s: Symbol) -> Result<Place, PlaceFault>
         requires { IsSymbol s }
         ensures step { result ≡ place_step self s }

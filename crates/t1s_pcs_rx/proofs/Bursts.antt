@@ -78,7 +78,7 @@ drop-more : (xs : List ℕ) (d k : ℕ) → length xs ≡ k
     → (if nat_lt k 9 then drop 9 xs else drop 9 xs ++ d ∷ []) ≡ drop 9 (xs ++ d ∷ [])
 drop-more xs d k e = grind (arith, common_steps, drop_of_length-le, drop-append-le)
 
-heard-more : (past : List Bool) (done : List ℕ) (n : ℕ)
+pub heard-more : (past : List Bool) (done : List ℕ) (n : ℕ)
     → nibbles_after (length done) (descrambler_after past done) (drop 9 (descrambled_nibbles past done)) (Nibble n)
     ≡ drop 9 (descrambled_nibbles past (done ++ n ∷ []))
 heard-more past done n =

@@ -56,13 +56,13 @@ late-quiet r (s ∷ ss) (suc (suc (suc (suc n)))) h l = absurd (omega arith)
 -- ---- a symbol is refused
 
 module _ (class : Class) (fresh : Bool) (place : Phase) (past : List Bool) (heard : List ℕ) (s : Symbol) (fault : PlaceFault) where
-  refused-3 : place_step place s ≡ Err fault
+  pub refused-3 : place_step place s ≡ Err fault
       → receive_step (reading class (Some (quarter s 2)) fresh place past heard) (One (quarter s 3)) false
       ≡ deaf (reading (class_after class fresh s) None fresh place past heard)
   unfolding receive_step
   refused-3 e = rw (same_symbol-refl s, e) refl
 
-  refused-none : place_step place s ≡ Err fault
+  pub refused-none : place_step place s ≡ Err fault
       → closing_in (reading class (Some (quarter s 2)) fresh place past heard) (One (quarter s 3)) false ≡ None
   unfolding closing_in
   refused-none e = rw (same_symbol-refl s, e) refl

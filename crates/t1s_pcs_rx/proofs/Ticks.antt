@@ -77,13 +77,13 @@ module _ (class : Class) (fresh : Bool) (place : Phase) (past : List Bool) (hear
   unfolding closing_in
   none-2 = rw (same_symbol-refl s) refl
 
-  step-3 : (next : Phase) → place_step place s ≡ Ok next
+  pub step-3 : (next : Phase) → place_step place s ≡ Ok next
       → receive_step (reading class (Some (quarter s 2)) fresh place past heard) (One (quarter s 3)) false
       ≡ reading (class_after class fresh s) (Some (quarter s 3)) false next (history_after past s) (nibbles_after (nibbles_at place) past heard s)
   unfolding receive_step
   step-3 next e = rw (same_symbol-refl s, e) refl
 
-  end-3 : (next : Phase) → place_step place s ≡ Ok next
+  pub end-3 : (next : Phase) → place_step place s ≡ Ok next
       → closing_in (reading class (Some (quarter s 2)) fresh place past heard) (One (quarter s 3)) false
       ≡ closed_by (lead_at place) (nibbles_at place) s
   unfolding closing_in

@@ -1,7 +1,7 @@
 //! The reading of bursts, a quarter at a time.
 ghost use Rattle.std.specs.Prelude.{◌≡◌, length, IfSome, IsTrue};
 ghost use Rattle.t1s_symbols.specs.Ranges.{IsHeard, IsQuarter};
-ghost use Rattle.t1s_pcs_rx.specs.Receiver.{Receiver, receive_start};
+ghost use Rattle.t1s_pcs_rx.specs.Receiver.{Receiver, receive_start, is_inside};
 ghost use Rattle.t1s_pcs_rx.specs.ReceiveTable.{class_after, class_at_end, class_in, class_of, closed_by, closing_at, closing_by, closing_from, closing_in, counted, ended, entered, heard_by, after_judgement, quarter_heard, receive_step};
 ghost use Rattle.t1s_pcs_rx.specs.Ranges.{room_at};
 ghost use Rattle.t1s_pcs_rx.specs.declared.reader.Burst.TheVariants.{Ended};
@@ -85,6 +85,13 @@ impl Reader {
         ensures { result ≡ self.now.class }
     {
         self.class
+    }
+
+    /// Inside a burst.
+    pub fn inside(&self) -> bool
+        ensures { result ≡ is_inside self.now.burst }
+    {
+        !matches!(self.burst, Burst::Outside)
     }
 
     /// The pieces, as they are read.

@@ -2,7 +2,7 @@
 ghost use Rattle.std.specs.Prelude.{◌≡◌};
 ghost use Rattle.std.specs.Borrow.{sem};
 ghost use Rattle.t1s_symbols.specs.Ranges.{IsHeard};
-ghost use Rattle.t1s_pcs_rx.specs.Receiver.{receive_start};
+ghost use Rattle.t1s_pcs_rx.specs.Receiver.{receive_start, is_inside};
 ghost use Rattle.t1s_pcs_rx.specs.ReceiveTable.{receive_event};
 ghost use Rattle.t1s_pcs_rx.specs.Leaves.{event_shown, EventFits, LeavesReceiver};
 
@@ -49,6 +49,14 @@ impl PcsRx {
         ensures { result ≡ self.now.class }
     {
         self.reader.class()
+    }
+
+    /// Whether the receiver is inside a burst: it has been from the first tick in which something was heard, and is
+    /// until nothing is heard, also where the reading of the burst has ended before.
+    pub fn inside(&self) -> bool
+        ensures { result ≡ is_inside self.now.burst }
+    {
+        self.reader.inside()
     }
 
     /// Hears one tick. `own` tells that the node drives in it: it then has no class, and whatever is heard counts

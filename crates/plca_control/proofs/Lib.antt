@@ -1,3 +1,4 @@
 pub mod Rows
+pub mod CalmTicks
 pub mod RunLaws
 pub mod RunRanges

@@ -7,6 +7,9 @@
 #![tactic(auto)]
 
 ghost use Rattle.std.specs.Prelude.{◌≡◌, ℕ, ◌+◌, ◌≤◌, ◌-◌, ◌*◌, IsTrue};
+ghost use Rattle.std.specs.Fn.{iterate};
+ghost use Rattle.t1s_symbols.specs.CalmSteps.{AreCalm, IsCalmFor};
+ghost use Rattle.plca_control.specs.CalmControl.{calm_ticks, passed, control_after, IsCalmControl, status_calm_ticks, status_passed, status_after, IsCalmStatus};
 ghost use Rattle.plca_control.specs.ControlTable.{reach, control_row, control_start, control_step, is_active, is_own};
 ghost use Rattle.plca_control.specs.Ranges.{IsControlSet, in_range, set_in_range, status_in_range};
 ghost use Rattle.plca_control.specs.StatusTable.{status_is_ok, status_start, status_step};
@@ -266,6 +269,38 @@ fn row(set: &ControlSet, state: State, inp: ControlIn) -> (State, TxCmd)
     }
 }
 
+/// For how many ticks of this input a state is calm, up to `most`.
+fn calm_ticks(set: &ControlSet, state: State, inp: ControlIn, most: u64) -> u64
+    requires { IsTrue (in_range set.now state) }
+    ensures { result ≡ calm_ticks set.now state inp most }
+{
+    let ticks = match state {
+        State::Disabled => most,
+        State::Recover(_) if inp.crs => most,
+        State::Recover(q) => u64::from(RECOVER_OPPORTUNITIES * u32::from(set.to) - q),
+        State::Early | State::Syncing | State::Receive(_) | State::Drain if inp.crs => most,
+        State::Resync if !inp.crs => most,
+        State::WaitTo(_, n) if !inp.crs => u64::from(n - 1),
+        _ => 0,
+    };
+    ticks.min(most)
+}
+
+/// The state that so many calm ticks of this input leave.
+fn passed(set: &ControlSet, state: State, inp: ControlIn, n: u64) -> State
+    requires range { IsTrue (in_range set.now state) }
+    requires calm { n ≤ calm_ticks set.now state inp n }
+    ensures state { result ≡ passed state inp n }
+    ensures ranges { IsTrue (in_range set.now result) }
+{
+    match state {
+        State::Recover(_) if inp.crs && n > 0 => State::Recover(0),
+        State::Recover(q) if !inp.crs => State::Recover(q + n as u32),
+        State::WaitTo(c, left) => State::WaitTo(c, left - n as u8),
+        _ => state,
+    }
+}
+
 impl Control {
     /// Control at the start of its node: disabled for ID 255, recovering for ID 0, and without a cycle
     /// to follow for each other ID.
@@ -304,6 +339,32 @@ impl Control {
             ControlOut { cmd, active, own },
         )
     }
+
+    /// For how many ticks of this input, one after the other, control does nothing but count: the greatest number
+    /// up to `most`. In such a calm tick the command is None, and nothing is changed but the ticks of Recover and of
+    /// WaitTo.
+    ///
+    /// Under carrier Disabled, Recover, Early, Syncing, Receive and Drain are calm without end; in silence Disabled
+    /// and Resync are, Recover is until its last tick, and WaitTo until its last tick. No other state is calm.
+    pub fn calm_for(&self, inp: ControlIn, most: u64) -> u64
+        ensures { IsCalmFor (control_after inp) (IsCalmControl inp) self.now most result }
+    {
+        calm_ticks(&self.set, self.state, inp, most)
+    }
+
+    /// So many ticks of this input at once. It asks that all of them are calm, as `calm_for` tells, and leaves what
+    /// as many steps leave.
+    pub fn pass(self, inp: ControlIn, n: u64) -> Control
+        requires { AreCalm (control_after inp) (IsCalmControl inp) self n }
+        ensures steps { result ≡ iterate (control_after inp) n self }
+        ensures ranges { IsTrue (in_range result.set result.state) }
+    {
+        let state = passed(&self.set, self.state, inp, n);
+        Control {
+            set: self.set,
+            state,
+        }
+    }
 }
 
 /// A state of the table of status.
@@ -315,6 +376,32 @@ enum StatusState {
     Active,
     /// Control has stopped taking part: ticks left until the status ends.
     Hysteresis(u32),
+}
+
+/// For how many ticks of this `active` a state is calm, up to `most`.
+fn status_calm_ticks(state: StatusState, active: bool, most: u64) -> u64
+    requires { IsTrue (status_in_range state) }
+    ensures { result ≡ status_calm_ticks state active most }
+{
+    let ticks = match (state, active) {
+        (StatusState::Inactive, false) | (StatusState::Active, true) => most,
+        (StatusState::Hysteresis(n), false) => u64::from(n - 1),
+        _ => 0,
+    };
+    ticks.min(most)
+}
+
+/// The state that so many calm ticks of this `active` leave.
+fn status_passed(state: StatusState, active: bool, n: u64) -> StatusState
+    requires range { IsTrue (status_in_range state) }
+    requires calm { n ≤ status_calm_ticks state active n }
+    ensures state { result ≡ status_passed state n }
+    ensures ranges { IsTrue (status_in_range result) }
+{
+    match state {
+        StatusState::Hysteresis(left) if !active => StatusState::Hysteresis(left - n as u32),
+        _ => state,
+    }
 }
 
 /// PLCA status of one node: whether control takes part in a cycle, with a hysteresis of 130090 ticks.
@@ -370,6 +457,28 @@ impl Status {
             (StatusState::Hysteresis(1), false) => StatusState::Inactive,
             (StatusState::Hysteresis(n), false) => StatusState::Hysteresis(n - 1),
         };
+        Status { state }
+    }
+
+    /// For how many ticks of this `active`, one after the other, the status does nothing but count: the greatest
+    /// number up to `most`. In such a calm tick nothing is changed but the ticks of Hysteresis.
+    ///
+    /// Where control takes part Active is calm without end; where it takes none Inactive is, and Hysteresis until its
+    /// last tick. No other state is calm.
+    pub fn calm_for(&self, active: bool, most: u64) -> u64
+        ensures { IsCalmFor (status_after active) (IsCalmStatus active) self.now most result }
+    {
+        status_calm_ticks(self.state, active, most)
+    }
+
+    /// So many ticks of this `active` at once. It asks that all of them are calm, as `calm_for` tells, and leaves
+    /// what as many steps leave.
+    pub fn pass(self, active: bool, n: u64) -> Status
+        requires { AreCalm (status_after active) (IsCalmStatus active) self n }
+        ensures steps { result ≡ iterate (status_after active) n self }
+        ensures ranges { IsTrue (status_in_range result) }
+    {
+        let state = status_passed(self.state, active, n);
         Status { state }
     }
 }

@@ -182,3 +182,69 @@ fn the_status_outlasts_a_short_absence(rt: HostRuntime) {
     assert!(rt; status.step(true).is_ok());
     assert!(rt; !status.step(false).is_ok());
 }
+
+/// More ticks than are asked for anywhere else.
+const MOST: u64 = 5000;
+
+/// For how many ticks of an input control is calm, up to `MOST`, and what it gives out in the tick after these.
+type Calm = (ControlIn, u64, ControlOut);
+
+/// Passes calm ticks, and then steps once with the same input.
+fn check_calm(rt: &impl Abort, id: u8, stretches: &[Calm]) {
+    let mut control = Control::start(set_of(id));
+    for (inp, ticks, want) in stretches {
+        let calm = control.calm_for(*inp, MOST);
+        assert!(rt; calm == *ticks);
+        let (next, out) = control.pass(*inp, calm).step(*inp);
+        assert!(rt; out == *want);
+        control = next;
+    }
+}
+
+#[test]
+fn control_acts_after_its_calm_ticks(rt: HostRuntime) {
+    check_calm(&rt, 255, &[(CARRIER, MOST, OUTSIDE)]);
+    check_calm(&rt, 0, &[(SILENCE, 4128, BEACON), (SILENCE, 0, BEACON)]);
+    check_calm(&rt, 0, &[(CARRIER, MOST, OUTSIDE), (SILENCE, 4128, BEACON)]);
+    check_calm(
+        &rt,
+        1,
+        &[
+            (SILENCE, MOST, OUTSIDE),
+            (CARRIER, 0, OUTSIDE),
+            (CARRIER, MOST, OUTSIDE),
+            (BEACON_HEARD, 0, WAITING),
+            (CARRIER, 0, WAITING),
+            (CARRIER, MOST, WAITING),
+            (BEACON_HEARD, 0, WAITING),
+            (READY, 15, OWNER),
+            (SILENCE, 0, OWNER),
+            (BEGUN, 0, OWNER),
+            (CLOSED, 0, OWNER),
+            (BEGUN, 0, OWNER),
+            (CLOSED, 0, OWNER),
+            (BEGUN, 0, OWNER),
+            (CLOSED, 0, WAITING),
+            (CARRIER, MOST, WAITING),
+            (SILENCE, 0, WAITING),
+            (SILENCE, 15, WAITING),
+        ],
+    );
+}
+
+#[test]
+fn the_status_changes_after_its_calm_ticks(rt: HostRuntime) {
+    let status = Status::start();
+    assert!(rt; status.calm_for(false, 9) == 9);
+    assert!(rt; status.calm_for(true, 9) == 0);
+    let status = status.step(true);
+    assert!(rt; status.calm_for(true, 9) == 9);
+    assert!(rt; status.calm_for(false, 9) == 0);
+    let status = status.step(false);
+    let calm = status.calm_for(false, u64::MAX);
+    assert!(rt; calm == 130089);
+    let status = status.pass(false, calm);
+    assert!(rt; status.is_ok());
+    assert!(rt; status.calm_for(false, 9) == 0);
+    assert!(rt; !status.step(false).is_ok());
+}

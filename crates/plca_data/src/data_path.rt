@@ -1,5 +1,8 @@
 //! `DataPath`, the machine that a node steps once a tick.
-ghost use Rattle.std.specs.Prelude.{◌≡◌, ℕ, false, ◌&&◌, IsTrue, List, []};
+ghost use Rattle.std.specs.Prelude.{◌≡◌, ◌≤◌, ℕ, false, ◌&&◌, IsTrue, List, []};
+ghost use Rattle.std.specs.Fn.{iterate};
+ghost use Rattle.t1s_symbols.specs.CalmSteps.{AreCalm, IsCalmFor};
+ghost use Rattle.plca_data.specs.CalmData.{keeps, calm_ticks, passed, path_after, IsCalmData};
 ghost use Rattle.plca_data.specs.DataPathTable.{data_path_start, carrier, collision, ready, begun, ended, bad, idle, hold, collide, delay_pending, pending, wait_mac, transmit, data_path_step, is_nibble, is_full, pushed};
 ghost use Rattle.plca_data.specs.Ranges.{IsMacOut, in_range};
 
@@ -200,6 +203,55 @@ fn transmit(ended: bool, bad: bool, inp: DataIn, line: &mut DelayLine) -> State
     }
 }
 
+/// Whether a tick of this input leaves the line as it is, and the state too, but for the ticks of `DelayPending` and
+/// their end.
+fn keeps(state: State, inp: DataIn) -> bool
+    ensures { result ≡ keeps state inp }
+{
+    let nibble = matches!(inp.mac, MacOut::Nibble(_));
+    let ended_now = matches!(inp.mac, MacOut::Ended);
+    let taken = inp.crs && matches!(inp.class, Class::Run | Class::Other);
+    match state {
+        State::Silent => !inp.active && !nibble,
+        State::Idle | State::DelayPending(_) => inp.active && !nibble,
+        State::Hold => inp.active && !inp.own && !taken && !nibble && !ended_now,
+        State::Collide => !ended_now,
+        State::Pending => inp.active && !inp.own && !nibble,
+        State::WaitMac => inp.own && !nibble,
+        State::Transmit { ended, bad } => {
+            let flags = (ended || !ended_now) && (bad || !inp.hit);
+            inp.own && !inp.closed && !nibble && flags
+        }
+    }
+}
+
+/// For how many ticks of this input a state is calm, up to `most`.
+fn calm_ticks(state: State, inp: DataIn, most: u64) -> u64
+    requires { IsTrue (in_range state) }
+    ensures { result ≡ calm_ticks state inp most }
+{
+    if !keeps(state, inp) {
+        return 0;
+    }
+    match state {
+        State::DelayPending(ticks) => u64::from(ticks - 1).min(most),
+        _ => most,
+    }
+}
+
+/// The state that so many calm ticks of this input leave.
+fn passed(state: State, inp: DataIn, n: u64) -> State
+    requires range { IsTrue (in_range state) }
+    requires calm { n ≤ calm_ticks state inp n }
+    ensures state { result ≡ passed state n }
+    ensures range { IsTrue (in_range result) }
+{
+    match state {
+        State::DelayPending(ticks) => State::DelayPending(ticks - n as u16),
+        _ => state,
+    }
+}
+
 impl DataPath {
     /// The data path at the start of its node: silent.
     pub fn start() -> DataPath
@@ -284,6 +336,29 @@ impl DataPath {
             State::WaitMac => wait_mac(inp, line),
             State::Transmit { ended, bad } => transmit(ended, bad, inp, line),
         };
+        DataPath { state }
+    }
+
+    /// For how many ticks of this input, one after the other, the data path does nothing but count: the greatest
+    /// number up to `most`. A calm tick neither pushes to the line nor clears it, and changes nothing but the ticks of
+    /// `DelayPending`.
+    ///
+    /// `DelayPending` is calm until its last tick, and each other state without end, where the input leaves it as it
+    /// is: in `Hold` and `Transmit` with no nibble from the MAC, and in `Transmit` with both flags as they are.
+    pub fn calm_for(&self, inp: DataIn, most: u64) -> u64
+        ensures { (line : List ℕ) → IsCalmFor (path_after inp) (IsCalmData inp) (self.now, line) most result }
+    {
+        calm_ticks(self.state, inp, most)
+    }
+
+    /// So many ticks of this input at once. It asks that all of them are calm, as `calm_for` tells, and leaves what
+    /// as many steps leave, over any line, which these leave as it is.
+    pub fn pass(self, inp: DataIn, n: u64) -> DataPath
+        requires { (line : List ℕ) → AreCalm (path_after inp) (IsCalmData inp) (self, line) n }
+        ensures steps { (line : List ℕ) → (result, line) ≡ iterate (path_after inp) n (self, line) }
+        ensures range { IsTrue (in_range result) }
+    {
+        let state = passed(self.state, inp, n);
         DataPath { state }
     }
 }

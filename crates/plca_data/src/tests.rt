@@ -261,3 +261,67 @@ fn a_full_line_collides_unless_the_opportunity_is_there(rt: HostRuntime) -> Resu
     assert_eq!(rt; line.len(), 0);
     Ok(())
 }
+
+/// More ticks than are asked for anywhere else.
+const MOST: u64 = 900;
+
+/// For how many ticks of an input the data path is calm, up to `MOST`, and what it shows after one tick more.
+type Calm = (DataIn, u64, Signals);
+
+/// Passes the calm ticks of an input, and then steps once with it.
+fn step_after_calm(data: DataPath, inp: DataIn, line: &mut DelayLine) -> (u64, DataPath)
+    requires { IsMacOut inp.mac }
+{
+    let calm = data.calm_for(inp, MOST);
+    (calm, data.pass(inp, calm).step(inp, line))
+}
+
+fn check_calm(rt: &impl Abort, line: &mut DelayLine, stretches: &[Calm]) {
+    let mut data = DataPath::start();
+    for (inp, ticks, want) in stretches {
+        let (calm, next) = step_after_calm(data, sound(*inp), line);
+        assert!(rt; calm == *ticks);
+        assert!(rt; shown(&next) == *want);
+        data = next;
+    }
+}
+
+#[test]
+fn the_data_path_acts_after_its_calm_ticks(rt: HostRuntime) -> Result<(), Fail> {
+    let mut line = DelayLine::new(rt.alloc())?;
+    check_calm(
+        &rt,
+        &mut line,
+        &[
+            (OUTSIDE, MOST, CLOSED_OFF),
+            (ACTIVE, 0, FREE),
+            (ENDED, MOST, FREE),
+            (NIBBLE, 0, HOLD),
+            (ACTIVE, MOST, HOLD),
+            (NIBBLE, 0, HOLD),
+            (TAKEN, 0, COLLIDE),
+            (NIBBLE, MOST, COLLIDE),
+            (ENDED, 0, CLOSED_OFF),
+            (ACTIVE, 511, PENDING),
+            (ACTIVE, MOST, PENDING),
+        ],
+    );
+    check_calm(
+        &rt,
+        &mut line,
+        &[
+            (ACTIVE, 0, FREE),
+            (NIBBLE, 0, HOLD),
+            (OWN, 0, BEGUN),
+            (OWN, MOST, BEGUN),
+            (OWN_NIBBLE, 0, BEGUN),
+            (OWN_HIT, 0, BEGUN_BAD),
+            (OWN_HIT, MOST, BEGUN_BAD),
+            (OWN_ENDED, 0, BEGUN_BAD_ENDED),
+            (OWN_ENDED, MOST, BEGUN_BAD_ENDED),
+            (OWN_CLOSED, 0, FREE),
+            (OWN, MOST, FREE),
+        ],
+    );
+    Ok(())
+}

@@ -1,3 +1,4 @@
+pub mod CalmTicks
 pub mod FrameEnds
 pub mod HeadNibbles
 pub mod Rows

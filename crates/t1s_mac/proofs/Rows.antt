@@ -1,5 +1,5 @@
 -- Facts of every row of the table.
-use Rattle.std.proofs.Common.{◌≡◌, ℕ, ◌+◌, ◌==◌, ◌<◌, Bool, true, false, ◌&&◌, ◌||◌, if◌then◌else◌, IsTrue, nat_lt, nat_le, List, [], ◌∷◌, length, slice_get, refl, arith}
+use Rattle.std.proofs.Common.{ℕ, ◌+◌, ◌==◌, ◌<◌, Bool, ◌&&◌, ◌||◌, IsTrue, nat_lt, nat_le, List, [], ◌∷◌, length, slice_get, refl, arith}
 use Rattle.std.proofs.lemmas.Bool.{cond_both}
 use Rattle.std.proofs.lemmas.Bool.Decides.{nat_tests}
 use Rattle.t1s_ring.specs.Queue.{Queue}

@@ -1,3 +1,4 @@
+pub mod CalmMac
 pub mod DeferenceTable
 pub mod Draws
 pub mod Laws

@@ -1,5 +1,6 @@
 //! Whether the MAC may start a frame.
-ghost use Rattle.std.specs.Prelude.{◌≡◌};
+ghost use Rattle.std.specs.Prelude.{◌≡◌, ◌≤◌};
+ghost use Rattle.t1s_mac.specs.CalmMac.{deference_lasts, deferring_lasts, deference_passed};
 ghost use Rattle.t1s_mac.specs.DeferenceTable.{may_start, deference_step};
 
 /// How many ticks an interframe gap lasts, once it has begun, whatever the carrier.
@@ -44,6 +45,40 @@ impl Deference {
             Deference::Busy => Deference::Busy,
             Deference::Free | Deference::Gap(_) if carrier => Deference::Busy,
             Deference::Free | Deference::Gap(_) => Deference::Free,
+        }
+    }
+
+    /// For how many ticks with this carrier deference only counts, up to `most`, where no frame is in work or the
+    /// first one backs off.
+    pub fn lasts(self, carrier: bool, most: u64) -> u64
+        ensures { result ≡ deference_lasts self carrier most }
+    {
+        match self {
+            Deference::Free if !carrier => most,
+            Deference::Busy if carrier => most,
+            Deference::Gap(left) => u64::from(left.saturating_sub(1)).min(most),
+            Deference::Free | Deference::Busy => 0,
+        }
+    }
+
+    /// And where the first frame waits until it may start.
+    pub fn lasts_deferring(self, carrier: bool, most: u64) -> u64
+        ensures { result ≡ deferring_lasts self carrier most }
+    {
+        match self {
+            Deference::Free => 0,
+            Deference::Busy | Deference::Gap(_) => self.lasts(carrier, most),
+        }
+    }
+
+    /// Deference after so many ticks in which it only counts.
+    pub fn passed(self, carrier: bool, n: u64) -> Deference
+        requires { n ≤ deference_lasts self carrier n }
+        ensures { result ≡ deference_passed self n }
+    {
+        match self {
+            Deference::Gap(left) => Deference::Gap(left.saturating_sub(n as u8)),
+            Deference::Free | Deference::Busy => self,
         }
     }
 }

@@ -2,6 +2,9 @@
 ghost use Rattle.std.specs.Prelude.{◌≡◌, ◌<◌, ◌↔◌, IsOk, IsErr, OnOk, IfErr, Some, IsSome, length};
 ghost use Rattle.plca_data.specs.Ranges.{IsMacOut};
 ghost use Rattle.t1s_ring.specs.Queue.{with_last, IsQueue};
+ghost use Rattle.std.specs.Fn.{iterate};
+ghost use Rattle.t1s_symbols.specs.CalmSteps.{AreCalm, IsCalmFor};
+ghost use Rattle.t1s_mac.specs.CalmMac.{mac_after, IsCalmMac};
 ghost use Rattle.t1s_mac.specs.MacTable.{mac_step, LeavesByNote};
 ghost use Rattle.t1s_mac.specs.State.{mac_start, IsMac, number_of, with_queue};
 
@@ -97,5 +100,43 @@ impl<D: Draws> Mac<D> {
             draws,
         };
         (mac, turn.step)
+    }
+
+    /// For how many ticks with this carrier, one after the other, the MAC does nothing but count: the greatest number
+    /// up to `most`. In such a calm tick it gives out nothing, tells of no frame, and changes nothing but the ticks of
+    /// a backoff and of an interframe gap. The collision input tells only in a sending, which is never calm.
+    ///
+    /// A MAC is calm at rest with no frame and while its first frame backs off, under carrier where the line is busy,
+    /// in silence where it is free, and in an interframe gap until its last tick; and so it is while its first frame
+    /// waits, but not where the line is free. A backoff is calm for the ticks that it has left. No other state is calm.
+    pub fn calm_for(&self, carrier: bool, collision: bool, most: u64) -> u64
+        ensures calm { IsCalmFor (mac_after D.answer D.after carrier collision) (IsCalmMac D.answer D.after carrier collision) self.now most result }
+        ensures bounds { IsMac self.now }
+    {
+        let _told_in_a_sending = collision;
+        self.state.calm_ticks(self.deference, carrier, most)
+    }
+
+    /// So many ticks with this carrier at once. It asks that all of them are calm, as `calm_for` tells, and leaves
+    /// what as many steps leave.
+    pub fn pass(self, carrier: bool, collision: bool, n: u64) -> Mac<D>
+        requires { AreCalm (mac_after D.answer D.after carrier collision) (IsCalmMac D.answer D.after carrier collision) self n }
+        ensures steps { result ≡ iterate (mac_after D.answer D.after carrier collision) n self }
+        ensures bounds { IsMac result }
+    {
+        let _told_in_a_sending = collision;
+        let Mac {
+            mut state,
+            deference,
+            attempts,
+            draws,
+        } = self;
+        state.pass(n);
+        Mac {
+            state,
+            deference: deference.passed(carrier, n),
+            attempts,
+            draws,
+        }
     }
 }

@@ -1,8 +1,10 @@
 //! The typed states of the MAC.
-ghost use Rattle.std.specs.Prelude.{◌≡◌};
-ghost use Rattle.t1s_mac.specs.State.{phase_of, is_sending};
+ghost use Rattle.std.specs.Prelude.{◌≡◌, ◌≤◌};
+ghost use Rattle.t1s_mac.specs.CalmMac.{calm_ticks, phase_passed, HasTicks};
+ghost use Rattle.t1s_mac.specs.State.{phase_of, queue_of, is_sending};
 
 use crate::MacStep;
+use crate::deference::Deference;
 use t1s_ring::{FrameRing, LentRing};
 
 /// No frame is in work.
@@ -67,5 +69,35 @@ impl State {
         ensures { result ≡ is_sending (phase_of self.now) }
     {
         matches!(self, State::Sending(_) | State::Jamming(_))
+    }
+
+    /// For how many ticks with this carrier a MAC in this state is calm, up to `most`.
+    pub fn calm_ticks(&self, deference: Deference, carrier: bool, most: u64) -> u64
+        ensures { result ≡ calm_ticks (phase_of self.now) (queue_of self.now) deference carrier most }
+    {
+        match self {
+            State::Resting(resting) => {
+                if resting.ring.len() > 0 {
+                    0
+                } else {
+                    deference.lasts(carrier, most)
+                }
+            }
+            State::Waiting(waiting) => deference.lasts(carrier, u64::from(waiting.ticks).min(most)),
+            State::Deferring(_) => deference.lasts_deferring(carrier, most),
+            State::Sending(_) | State::Jamming(_) => 0,
+        }
+    }
+
+    /// Lets so many ticks of a backoff pass, which has as many.
+    pub fn pass(&mut self, n: u64)
+        requires { HasTicks (phase_of self.old) n }
+        ensures phase { phase_of self.new ≡ phase_passed (phase_of self.old) n }
+        ensures queue { queue_of self.new ≡ queue_of self.old }
+    {
+        if let State::Waiting(waiting) = self {
+            let left = u64::from(waiting.ticks) - n;
+            waiting.ticks = left as u32;
+        }
     }
 }

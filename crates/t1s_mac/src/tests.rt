@@ -119,3 +119,65 @@ fn draws_of_each_kind(rt: HostRuntime) -> Result<(), Fail> {
     assert_eq!(rt; (drawn(&mut list, 10), drawn(&mut list, 1)), (1023, 0));
     Ok(())
 }
+
+/// More ticks than are asked for anywhere else.
+const MOST: u64 = 5000;
+
+/// The carrier, for how many ticks with it a MAC is calm, up to `MOST`, and what it gives out in the tick after these.
+type Calm = (bool, u64, MacOut);
+
+/// Passes the calm ticks with a carrier, and then steps once with it.
+fn step_after_calm<D: Draws>(mac: Mac<D>, carrier: bool) -> (u64, Mac<D>, MacStep) {
+    let calm = mac.calm_for(carrier, false, MOST);
+    let (mac, told) = mac.pass(carrier, false, calm).step(carrier, false);
+    (calm, mac, told)
+}
+
+/// Whether each stretch is as it is wanted.
+fn run_calm<D: Draws>(mut mac: Mac<D>, stretches: &[Calm]) -> (Mac<D>, bool) {
+    let mut as_wanted = true;
+    for (carrier, ticks, out) in stretches {
+        let (calm, next, told) = step_after_calm(mac, *carrier);
+        mac = next;
+        as_wanted = as_wanted && calm == *ticks && told.out == *out;
+    }
+    (mac, as_wanted)
+}
+
+#[test]
+fn acts_after_its_calm_ticks(rt: HostRuntime) -> Result<(), Fail> {
+    let ring = FrameRing::with_room(rt.alloc(), 1)?;
+    let mac = Mac::start(ring, ListDraws::new([1].to_vec(rt.alloc())?));
+    let at_rest = [
+        (true, MOST, MacOut::Nothing),
+        (false, 0, MacOut::Nothing),
+        (true, 95, MacOut::Nothing),
+        (false, 0, MacOut::Nothing),
+        (false, 95, MacOut::Nothing),
+        (false, MOST, MacOut::Nothing),
+        (true, 0, MacOut::Nothing),
+    ];
+    let (mut mac, as_wanted) = run_calm(mac, &at_rest);
+    assert!(rt; as_wanted);
+    mac.offer(queued(7)?)?;
+    let deferring = [
+        (true, 0, MacOut::Nothing),
+        (true, MOST, MacOut::Nothing),
+        (false, 0, MacOut::Nothing),
+        (true, 95, MacOut::Nibble(5)),
+        (false, 0, MacOut::Nothing),
+    ];
+    let (mac, as_wanted) = run_calm(mac, &deferring);
+    assert!(rt; as_wanted);
+    // sixteen nibbles and a jam, two ticks of which are out
+    let (mac, tally) = run(mac, 95, true);
+    assert_eq!(rt; tally.jams, 1);
+    let backing_off = [
+        (false, 0, MacOut::Nothing),
+        (false, 95, MacOut::Nothing),
+        (false, 415, MacOut::Nibble(5)),
+    ];
+    let (_mac, as_wanted) = run_calm(mac, &backing_off);
+    assert!(rt; as_wanted);
+    Ok(())
+}

@@ -28,7 +28,7 @@ fit_dropped : (frames : List Queued) → Fit frames → Fit (drop 1 frames)
 fit_dropped [] fit = fit
 fit_dropped (q ∷ qs) fit = fit.1
 
-abbrev Fits : Row → Type 0
+abbrev pub Fits : Row → Type 0
 Fits left = Fit left.queue.frames
 
 fit_sending : (k p : ℕ) (hit : Bool) (q : Queue) (a : ℕ) → Fit q.frames → Fits (sending k p hit q a)
@@ -47,14 +47,14 @@ fit_deferring : (q : Queue) (a : ℕ) (may : Bool) → Fit q.frames → Fits (de
 fit_deferring q a true fit = fit
 fit_deferring q a false fit = fit
 
-fit_row : (phase : Phase) (q : Queue) (a : ℕ) (may collision : Bool) (drawn : ℕ) → Fit q.frames → Fits (row_of phase q a may collision drawn)
+pub fit_row : (phase : Phase) (q : Queue) (a : ℕ) (may collision : Bool) (drawn : ℕ) → Fit q.frames → Fits (row_of phase q a may collision drawn)
 fit_row Resting q a may collision drawn fit = cond_both (nat_lt 0 (length q.frames)) _ _ Fits (λ _. fit_deferring q a may fit) (λ _. fit)
 fit_row (Waiting left) q a may collision drawn fit = cond_both (left == 0) _ _ Fits (λ _. fit_deferring q a may fit) (λ _. fit)
 fit_row Deferring q a may collision drawn fit = fit_deferring q a may fit
 fit_row (Sending k p c) q a may collision drawn fit = fit_sending k p (c || collision) q a fit
 fit_row (Jamming j p) q a may collision drawn fit = fit_jamming j p q a drawn fit
 
-some_more : (frames : List Queued) (q : Queued) → 0 < length (frames ++ q ∷ [])
+pub some_more : (frames : List Queued) (q : Queued) → 0 < length (frames ++ q ∷ [])
 some_more [] q = omega arith
 some_more (x ∷ xs) q = omega arith
 
@@ -62,7 +62,7 @@ pub first_stays : (frames : List Queued) (f q : Queued) → slice_get frames 0 �
 first_stays [] f q e = absurd (cc)
 first_stays (x ∷ xs) f q e = e
 
-heads_offered : (q : Queue) (x f : Queued) → Heads q f → Heads (with_last q x) f
+pub heads_offered : (q : Queue) (x f : Queued) → Heads q f → Heads (with_last q x) f
 heads_offered q x f h =
     let first : slice_get (q.frames ++ x ∷ []) 0 ≡ Some f = first_stays q.frames f x h.first in
     record { first = first; nibbles = ap nibbles_in first; number = ap number_in first; frame = h.frame }
@@ -92,7 +92,7 @@ joint_offered _ _ phase q x _ _ stage _ _ line (given resting tx feeds late past
 joint_offered _ _ phase q x _ _ _ _ _ _ (ends resting few) = ends (rests_offered phase q x resting) few
 joint_offered _ _ phase q x _ _ _ _ _ _ (closes resting few) = closes (rests_offered phase q x resting) few
 
-fit_more : (frames : List Queued) (q : Queued) → Fit frames → IsFrame q.frame → Fit (frames ++ q ∷ [])
+pub fit_more : (frames : List Queued) (q : Queued) → Fit frames → IsFrame q.frame → Fit (frames ++ q ∷ [])
 fit_more [] q fit frame = (frame, tt)
 fit_more (x ∷ xs) q fit frame = (fit.0, fit_more xs q fit.1 frame)
 

@@ -24,3 +24,17 @@ pub mod CommitToFirstH
 pub mod SentTick
 pub mod NodeCore
 pub mod OwnDrives
+pub mod AnyMac
+pub mod AnyControl
+pub mod AnyPlaces
+pub mod AnyRest
+pub mod AnyTx
+pub mod AnyOwn
+pub mod AnyEnds
+pub mod AnySteps
+pub mod AnyTicks
+pub mod AnyTick
+pub mod AnyDrives
+pub mod AnyRuns
+pub mod AnyClosers
+pub mod AnyClosed

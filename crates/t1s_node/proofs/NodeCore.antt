@@ -8,7 +8,7 @@ use Rattle.t1s_node.specs.Node.{NodeState, node_after_offer, reading_of}
 use Rattle.t1s_node.specs.NodeRuns.{NodeTick, node_after_offers, node_at, core_ticks}
 use Rattle.t1s_node.specs.Runs.{core_after_offers, core_at, drive_at}
 
-offers_core : (n : NodeState) (qs : List Queued) → (node_after_offers n qs).core ≡ core_after_offers n.core qs
+pub offers_core : (n : NodeState) (qs : List Queued) → (node_after_offers n qs).core ≡ core_after_offers n.core qs
 offers_core n [] = refl
 offers_core n (q ∷ qs) = offers_core (node_after_offer n q) qs
 

@@ -1,13 +1,12 @@
 -- The transmitter while the own opportunity lasts: a quarter in each tick, and an end at a symbol boundary.
-use Rattle.std.proofs.Common.{◌≡◌, ℕ, zero, suc, ◌+◌, ◌-◌, ◌*◌, ◌==◌, ◌<◌, ◌≤◌, ◌⊎◌, inl, inr, Bool, true, false, nat_lt, List, [], ◌∷◌, None, refl, sym, ◌∙◌, ap, subst, arith, rules}
+use Rattle.std.proofs.Common.{◌≡◌, ℕ, ◌+◌, ◌-◌, ◌*◌, ◌==◌, ◌<◌, ◌≤◌, ◌⊎◌, inl, inr, Bool, true, false, nat_lt, List, [], ◌∷◌, None, refl, sym, ◌∙◌, subst, arith, rules}
 use Rattle.std.proofs.lemmas.Bool.{cases_lt, cases_eq, false≢true}
 use Rattle.std.proofs.lemmas.Bool.Decides.{nat_tests}
-use Rattle.t1s_pcs_tx.specs.declared.TxCmd.{TxCmd}
-use Rattle.t1s_pcs_tx.specs.declared.TxCmd.TheVariants.{None as NoCmd, Beacon as BeaconCmd, Commit as CommitCmd}
+use Rattle.t1s_pcs_tx.specs.declared.TxCmd.TheVariants.{None as NoCmd, Commit as CommitCmd}
 use Rattle.t1s_pcs_tx.specs.declared.TxIn.{TxIn}
-use Rattle.t1s_pcs_tx.specs.State.{Stage, Quiet, Beaconing, Committing, Starting, Sending, ClosingEnd, ClosingCloser, is_closed, report_by}
-use Rattle.t1s_pcs_tx.specs.TransmitTable.{TxTurn, transmit_step, choice_after, chosen_turn, turn_to, data_choice, command_choice, last_part, at_boundary}
-use Rattle.t1s_node.proofs.View.{View, Away, InRow, InCommit, InTransmit, InPause, cmd_of, own_of, Turns, own_begins, commit_sends, commit_waits, commit_ends, stays_transmit, pauses, transmit_ends, pause_sends, pause_waits, pause_ends}
+use Rattle.t1s_pcs_tx.specs.State.{Stage, Quiet, Committing, Starting, Sending, ClosingEnd, ClosingCloser, is_closed, report_by}
+use Rattle.t1s_pcs_tx.specs.TransmitTable.{TxTurn, transmit_step, choice_after, data_choice, at_boundary}
+use Rattle.t1s_node.proofs.View.{View, InCommit, InTransmit, InPause, cmd_of, own_of, Turns, own_begins, commit_sends, commit_waits, commit_ends, stays_transmit, pauses, transmit_ends, pause_sends, pause_waits, pause_ends}
 
 -- how many symbols have ended before this stage
 pub data Late : ℕ → Stage → Type 0 where

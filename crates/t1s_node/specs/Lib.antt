@@ -5,3 +5,4 @@ pub mod Core
 pub mod Laws
 pub mod Runs
 pub mod NodeRuns
+pub mod ClosedPieces

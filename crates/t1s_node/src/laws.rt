@@ -4,6 +4,7 @@
 ghost use Rattle.t1s_mac.specs.PickedDraws.{picked_answer};
 ghost use Rattle.t1s_node.specs.Runs.{DrawsAreBounded};
 ghost use Rattle.t1s_node.specs.Laws.{StartsOnlyAwake, DefersBriefly, JamsOnce, LeavesOrPends, PendsUntilOwn, CommitsBriefly, LeavesOnceCommitted, SendsWholePiece, SentInPiece};
+ghost use Rattle.t1s_node.specs.ClosedPieces.{ClosesWholeFrames};
 ghost use Rattle.t1s_node.specs.NodeRuns.{RunsAsCore};
 
 use t1s_mac::Draws;
@@ -57,6 +58,12 @@ pub fn sends_whole_piece<D: Draws>()
 /// A frame leaves the queue only within its piece, after the first H and before T.
 pub fn sent_in_piece<D: Draws>()
     ensures { SentInPiece D.answer D.after }
+{}
+
+/// Where a frame leaves in a piece that is closed by R, the piece is that of this frame, whole, and the drive spells it after
+/// pieces of a run. This holds in every run, whatever meets the node's drive.
+pub fn closes_whole_frames<D: Draws>()
+    ensures { ClosesWholeFrames D.answer D.after }
 {}
 
 /// The core of a node runs as a core does that finds in each tick what the node keeps, so each law of a core is one of a

@@ -1,6 +1,7 @@
 -- Events events one after another, and events and tests over the ticks below one.
-use Rattle.std.proofs.Common.{◌≡◌, ℕ, zero, suc, ◌+◌, ◌≤◌, Bool, List, [], ◌∷◌, ◌++◌, Some, None, true, false, cond, refl, add-one, arith}
+use Rattle.std.proofs.Common.{◌≡◌, ℕ, zero, suc, ◌+◌, ◌<◌, ◌≤◌, inl, inr, Bool, List, [], ◌∷◌, ◌++◌, Some, None, true, false, cond, refl, add-one, ap, sym, ◌∙◌, arith}
 use Rattle.std.specs.Option.{option_or}
+use Rattle.std.proofs.lemmas.Bool.{cases_eq}
 use Rattle.t1s_world.specs.Events.{SeesEvents, events_below, first_below, count_below}
 
 module _ {W E : Type 0} (sees : W → E → W → Type 0) where
@@ -42,3 +43,16 @@ module _ (p : ℕ → Bool) where
   unfolding count_below
   count_below-le zero = omega arith
   count_below-le (suc t) = omega (arith, count_below-le t, one_at_most (p t))
+
+  no_more : (n : ℕ) (b : Bool) → n + cond b 1 0 ≡ 0 → b ≡ true → ⊥
+  no_more n true none passes = omega (arith, none)
+  no_more n false none passes = cc
+
+  -- where none is counted, none passes the test
+  pub none_counted : (t : ℕ) → count_below p t ≡ 0 → (u : ℕ) → u < t → p u ≡ true → ⊥
+  unfolding count_below
+  none_counted zero none u below passes = omega (arith, below)
+  none_counted (suc t) none u below passes = elim (cases_eq u t) [
+    | inl same ↦ no_more (count_below p t) (p t) none (ap p (sym same) ∙ passes)
+    | inr other ↦ none_counted t (omega (arith, none)) u (omega (arith, below, other)) passes
+  ]

@@ -10,3 +10,5 @@ pub mod Overlaps
 pub mod DriveStarts
 pub mod CycleWaves
 pub mod SingleSender
+pub mod DriveTicks
+pub mod Arrivals

@@ -52,12 +52,12 @@ module _ {Node DriveOutcome HearOutcome : Type 0} (m : Machine Node DriveOutcome
   far j i = abs_diff (get_or places j 0) (get_or places i 0)
 
   -- the quarter of node i that reaches node j in tick t
-  reaches : (t j i : ℕ) → (i ≡ j → ⊥) → far j i ≤ t → arriving (at_depth (past m places first (suc t)).rows) j (get_or places j 0) i (get_or places i 0) ≡ driven_at m places first (t - far j i) i
+  pub reaches : (t j i : ℕ) → (i ≡ j → ⊥) → far j i ≤ t → arriving (at_depth (past m places first (suc t)).rows) j (get_or places j 0) i (get_or places i 0) ≡ driven_at m places first (t - far j i) i
   reaches t j i other near =
       let b : eqb i j ≡ false = search (rules, nat_tests) in
       rw b (at_depth-within m places first (suc t) (far j i) (t - far j i) i (omega (arith, near)))
 
-  reaches_not_yet : (t j i : ℕ) → t < far j i → arriving (at_depth (past m places first (suc t)).rows) j (get_or places j 0) i (get_or places i 0) ≡ None
+  pub reaches_not_yet : (t j i : ℕ) → t < far j i → arriving (at_depth (past m places first (suc t)).rows) j (get_or places j 0) i (get_or places i 0) ≡ None
   reaches_not_yet t j i soon = elim (cases_eq i j) [
     | inl same ↦ let b : eqb i j ≡ true = search (rules, nat_tests) in rw b refl
     | inr other ↦ let b : eqb i j ≡ false = search (rules, nat_tests) in rw b (at_depth-before m places first (suc t) (far j i) i (omega (arith, soon)))

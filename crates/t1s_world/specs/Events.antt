@@ -1,6 +1,6 @@
 -- Events that are told one after another, and the first tick at which something holds.
 use Rattle.std.specs.Option.{option_or}
-use Rattle.std.specs.Prelude.{◌≡◌, ℕ, zero, suc, ◌+◌, Bool, List, [], ◌∷◌, ◌++◌, Option, Some, None, if◌then◌else◌}
+use Rattle.std.specs.Prelude.{◌≡◌, ◌↔◌, ℕ, zero, suc, ◌+◌, ◌<◌, Bool, true, List, [], ◌∷◌, ◌++◌, Option, Some, None, if◌then◌else◌}
 
 module _ {W E : Type 0} where
   -- a watch w that is told these events, one after another, may become v
@@ -22,3 +22,9 @@ first_below p (suc t) = option_or (first_below p t) (if p t then Some t else Non
 unfoldable pub count_below : (ℕ → Bool) → ℕ → ℕ
 count_below p zero = 0
 count_below p (suc t) = count_below p t + (if p t then 1 else 0)
+
+-- n is how many numbers below t have the property P: a test passes exactly those, and n numbers below t pass it
+pub record IsNumberBelow (P : ℕ → Type 0) (t n : ℕ) : Type 0 where
+  pub test : ℕ → Bool
+  pub exact : (u : ℕ) → u < t → (test u ≡ true) ↔ P u
+  pub count : n ≡ count_below test t

@@ -34,7 +34,7 @@ others_above : (rank : ℕ → ℕ) (frames more : List Queued) (f : Queued) →
 others_above rank frames more f e h =
     let here = subst (λ qs. RanksAscend rank (qs ++ more)) (head_form frames f e) h in here.0
 
-first_of : (b : Bool) (o : Option ℕ) (number : ℕ) → (if b then o else None) ≡ Some number → b ≡ true
+pub first_of : (b : Bool) (o : Option ℕ) (number : ℕ) → (if b then o else None) ≡ Some number → b ≡ true
 first_of true o number e = refl
 first_of false o number e = absurd (cc)
 

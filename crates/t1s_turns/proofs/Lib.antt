@@ -30,3 +30,4 @@ pub mod FrameWait
 pub mod FrameWay
 pub mod TurnTaken
 pub mod LeavingInTime
+pub mod OwnPieces

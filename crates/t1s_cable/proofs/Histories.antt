@@ -35,7 +35,7 @@ module _ (room : ℕ) (rings : List (Buffer (Option Quarter))) (rows : List (Lis
       rw (get_or-each_with pushed rings row i (buffer [] 0) None lt e, keeps i lt, take_newest room (get_or row i None) (column i rows)) refl
 
   -- the current row and the rings tell what was put as far back as any node is away
-  put_at_is : (row : List (Option Quarter)) (i d : ℕ) → i < length rings → d ≤ room → put_at row rings i d ≡ at_depth (row ∷ rows) i d
+  pub put_at_is : (row : List (Option Quarter)) (i d : ℕ) → i < length rings → d ≤ room → put_at row rings i d ≡ at_depth (row ∷ rows) i d
   put_at_is row i zero h near = refl
   put_at_is row i (suc d) h near = ring_at_is i d h (omega arith)
 

@@ -2,3 +2,4 @@ pub mod Rings
 pub mod Silence
 pub mod State
 pub mod Stands
+pub mod Calm

@@ -1,4 +1,5 @@
 //! `Cable`, on which the nodes of a segment put what they drive.
+use crate::calm::calm_ticks;
 use crate::kept::{Ring, count_down, end_tick, hear_at, new_ring, span};
 use std::alloc::{AllocError, Global};
 use std::marker::Model;
@@ -46,12 +47,13 @@ impl Model for Cable {
 }
 
 impl Cable {
-    ghost use Rattle.std.specs.Prelude.{◌≡◌, ◌<◌, ◌≤◌, List, Option, None, [], ◌∷◌, length, get_or, set, IfOk, IfSome};
+    ghost use Rattle.std.specs.Prelude.{◌≡◌, ℕ, ◌+◌, ◌<◌, ◌≤◌, ◌==◌, List, Option, None, [], ◌∷◌, length, get_or, set, if◌then◌else◌, IfOk, IfSome};
     ghost use Rattle.t1s_symbols.specs.Ranges.{IsHeard, IsQuarter};
     ghost use Rattle.t1s_symbols.specs.declared.Quarter.{Quarter};
     ghost use Rattle.t1s_world.specs.Hearing.{heard};
     ghost use Rattle.t1s_base.specs.Limits.{most_nodes};
     ghost use Rattle.t1s_world.specs.World.{at_depth};
+    ghost use Rattle.t1s_cable.specs.Calm.{after_silence, IsCalm, IsHeardIn};
     ghost use Rattle.t1s_cable.specs.Stands.{Stands, no_puts};
 
     /// A cable with nodes at these 1 to 16 places, in its first tick, in which nothing is put yet. It takes
@@ -141,5 +143,43 @@ impl Cable {
         end_tick(self.row.as_mut_slice(), self.rings.as_mut_slice());
         count_down(self.carried.as_mut_slice());
         self.busy -= 1;
+    }
+
+    /// In how many ticks, up to `most` and the current one first, no node hears anything, where nothing more is put in these:
+    /// they end before the first tick in which a quarter that is on its way reaches a node. Its time grows with the cable and
+    /// not with `most`.
+    pub fn calm_for(&self, most: u64) -> u64
+        ensures most { result ≤ most }
+        ensures calm { (rows : List (List (Option Quarter))) → Stands rows self.now → (n : ℕ) → n < result →
+            IsCalm self.now.places (after_silence self.now.places n rows) }
+        ensures greatest { (rows : List (List (Option Quarter))) → Stands rows self.now → result < most →
+            IsHeardIn self.now.places (after_silence self.now.places result rows) }
+    {
+        let limit = most.min(u64::from(self.busy)) as u16;
+        let calm = calm_ticks(
+            self.places.as_slice(),
+            self.row.as_slice(),
+            self.rings.as_slice(),
+            self.carried.as_slice(),
+            limit,
+        );
+        if calm < limit { u64::from(calm) } else { most }
+    }
+
+    /// Ends n ticks, the current one and those after it, in which nothing is put: it leaves what n calls of `turn` leave. Its time
+    /// grows with the cable and not with n.
+    #[tactic(auto, unfolding(crate::specs::Calm::after_silence))]
+    pub fn pass(&mut self, n: u64)
+        ensures places { self.new.places ≡ self.old.places }
+        ensures row { self.new.row ≡ (if n == 0 then self.old.row else no_puts self.old.places) }
+        ensures stands { (rows : List (List (Option Quarter))) →
+            Stands rows self.old → Stands (after_silence self.old.places n rows) self.new }
+    {
+        for _passed in 0..n {
+            if self.busy == 0 {
+                return;
+            }
+            self.turn();
+        }
     }
 }

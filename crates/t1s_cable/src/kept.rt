@@ -75,7 +75,7 @@ fn kept_at(ring: &Ring, depth: usize) -> Option<Quarter>
 }
 
 /// What node i drove `depth` ticks ago, as far as it is kept.
-fn put_at(row: &[Option<Quarter>], rings: &[Ring], i: usize, depth: usize) -> Option<Quarter>
+pub fn put_at(row: &[Option<Quarter>], rings: &[Ring], i: usize, depth: usize) -> Option<Quarter>
     requires in_range { i < length row.now }
     requires lengths { length rings.now ≡ length row.now }
     ensures { result ≡ put_at row.now rings.now i depth }

@@ -4,11 +4,13 @@
 //! `specs/Stands.antt`), though it keeps no more than the longest cable needs: `put` and `turn` extend that
 //! history, and `heard` is what the world hears over all of it (`specs/Hearing.antt` of `t1s_world`). What
 //! contracts see of a cable stands in `specs/State.antt`, and what it keeps in `specs/Rings.antt`. It also counts
-//! in how many ticks a quarter may still be on its way (`specs/Silence.antt`), so that silence costs little. Only
-//! `Cable::new` takes memory.
+//! in how many ticks a quarter may still be on its way (`specs/Silence.antt`), so that silence costs little. By that
+//! count `calm_for` and `pass` answer for any number of silent ticks at once (`specs/Calm.antt`). Only `Cable::new` takes
+//! memory.
 #![tactic(auto)]
 
 mod cable;
+mod calm;
 mod kept;
 
 pub use cable::Cable;

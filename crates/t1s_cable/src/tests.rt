@@ -190,3 +190,35 @@ fn the_farthest_nodes_hear_each_other_after_255_ticks(rt: HostRuntime) -> Result
     );
     Ok(())
 }
+
+#[test]
+fn silence_is_passed_up_to_what_is_on_its_way(rt: HostRuntime) -> Result<(), Fail> {
+    let mut cable = Cable::new(rt.alloc(), &[0, 2, 5])?;
+    assert_eq!(rt; cable.calm_for(u64::MAX), u64::MAX);
+    cable.put(1, Some(BEACON));
+    for (most, want) in [(0, 0), (1, 1), (9, 2)] {
+        assert_eq!(rt; cable.calm_for(most), want);
+    }
+    cable.pass(0);
+    assert_eq!(rt; cable.calm_for(9), 2);
+    cable.pass(1);
+    assert_eq!(rt; cable.calm_for(9), 1);
+    cable.pass(2);
+    check_heard(
+        &rt,
+        &cable,
+        [Heard::Nothing, Heard::Nothing, Heard::One(BEACON)],
+    );
+    assert_eq!(rt; cable.calm_for(9), 0);
+    cable.pass(1);
+    assert_eq!(rt; cable.calm_for(u64::MAX), u64::MAX);
+    cable.pass(u64::MAX);
+    play(&mut cable, None, None, Some(COMMIT));
+    cable.pass(cable.calm_for(9));
+    check_heard(
+        &rt,
+        &cable,
+        [Heard::Nothing, Heard::One(COMMIT), Heard::Nothing],
+    );
+    Ok(())
+}

@@ -1,6 +1,9 @@
 pub mod Cuts
 pub mod Ranges
 pub mod Nodes
+pub mod LineValues
+pub mod LineActs
+pub mod DraftSteps
 pub mod Drafts
 pub mod Validity
 pub mod Premises

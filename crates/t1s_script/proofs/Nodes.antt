@@ -16,6 +16,7 @@ use Rattle.t1s_script.specs.declared.draft.Slot.{Slot}
 pub record IsSlot (slot : Slot) : Type 0 where
   pub id : slot.id ≤ 255
   pub place : slot.place ≤ 255
+  pub to : (n : ℕ) → slot.to ≡ Some n → (16 ≤ n) × (n ≤ 255)
   pub start : (t : ℕ) → slot.start ≡ Some t → t ≤ most_ticks
   pub few_draws : length slot.draws ≤ most_draws
   pub draws : All (λ draw. draw ≤ last_draw) slot.draws
@@ -31,6 +32,10 @@ start_range : (o : Option ℕ) → ((t : ℕ) → o ≡ Some t → t ≤ most_ti
 start_range None h = omega arith
 start_range (Some t) h = h t refl
 
+timer_range : (o : Option ℕ) (to : ℕ) → 16 ≤ to → to ≤ 255 → ((n : ℕ) → o ≡ Some n → (16 ≤ n) × (n ≤ 255)) → (16 ≤ unwrap_or o to) × (unwrap_or o to ≤ 255)
+timer_range None to low high h = (low, high)
+timer_range (Some n) to low high h = h n refl
+
 draws_range : (draws : List ℕ) → length draws ≤ most_draws → All (λ draw. draw ≤ last_draw) draws → AreDraws (draw_list draws)
 draws_range [] few h = tt
 draws_range (draw ∷ draws) few h = (few, h)
@@ -40,8 +45,8 @@ node_range to number slot low high few h = record {
   no_high = few;
   id_high = h.id;
   place_high = h.place;
-  to_low = low;
-  to_high = high;
+  to_low = (timer_range slot.to to low high h.to).0;
+  to_high = (timer_range slot.to to low high h.to).1;
   start_high = start_range slot.start h.start;
   draws = draws_range slot.draws h.few_draws h.draws;
 }

@@ -1,5 +1,5 @@
 -- The numbers that a line gives lie in their ranges.
-use Rattle.std.proofs.Common.{◌≡◌, ℕ, ◌<◌, ◌≤◌, Bool, true, false, cond, leb, List, [], ◌∷◌, length, replicate, Option, Some, None, Result, Ok, Err, refl, subst, arith, All}
+use Rattle.std.proofs.Common.{◌≡◌, ℕ, ◌<◌, ◌≤◌, Bool, true, false, cond, leb, ltb, List, [], ◌∷◌, length, replicate, Option, Some, None, Result, Ok, Err, refl, subst, arith, All}
 use Rattle.std.specs.Prelude.{◌&&◌}
 use Rattle.std.proofs.lemmas.Bool.Decides.{nat_tests}
 use Rattle.std.proofs.lemmas.List.{get_or_default}
@@ -15,14 +15,15 @@ use Rattle.t1s_script.specs.Lines.{fields_of}
 use Rattle.t1s_script.specs.Settings.{lowest, highest, setting_range}
 use Rattle.t1s_script.specs.Limits.{last_draw}
 use Rattle.t1s_script.specs.FrameTexts.{frame_within, frame_decoded, hex_frame, sole_octet, frame_filled, fill_frame}
-use Rattle.t1s_script.specs.ParsedLine.{word_of, up_to, is_within, one_within, two_within, three_within, one_number, two_numbers, three_numbers, says, offers, offer_in, fills, fill_in, line_by_word, line_in, is_skipped, parsed_line}
+use Rattle.t1s_script.specs.ParsedLine.{word_of, up_to, is_within, one_within, two_within, three_within, one_number, two_numbers, three_numbers, says, offers, offer_in, fills, fill_in, lasts, line_by_word, line_in, is_skipped, parsed_line}
 use Rattle.t1s_script.specs.declared.refusals.ScriptReason.{ScriptReason}
 use Rattle.t1s_script.specs.declared.refusals.ScriptReason.TheVariants.{OutOfRange, FrameSize}
 use Rattle.t1s_script.specs.declared.words.Range.{Range}
+use Rattle.t1s_script.specs.declared.words.Setting.TheVariants.{To}
 use Rattle.t1s_script.specs.declared.words.Word.{Word}
-use Rattle.t1s_script.specs.declared.words.Word.TheVariants.{Set as SetWord, Seed as SeedWord, Node as NodeWord, Late as LateWord, Draw as DrawWord, Offer as OfferWord, Fill as FillWord, End as EndWord}
+use Rattle.t1s_script.specs.declared.words.Word.TheVariants.{Set as SetWord, Seed as SeedWord, Node as NodeWord, Late as LateWord, ToNode as ToNodeWord, Draw as DrawWord, Offer as OfferWord, Fill as FillWord, Noise as NoiseWord, End as EndWord}
 use Rattle.t1s_script.specs.declared.words.ScriptLine.{ScriptLine}
-use Rattle.t1s_script.specs.declared.words.ScriptLine.TheVariants.{Skipped, Set, Seed, Node, Late, Draw, Offer, End}
+use Rattle.t1s_script.specs.declared.words.ScriptLine.TheVariants.{Skipped, Set, Seed, Node, Late, ToNode, Draw, Offer, Noise, End}
 
 -- the numbers of a line are in their ranges
 abbrev pub InRange : ScriptLine → Type 0
@@ -31,8 +32,10 @@ InRange (Set w n) = (lowest w ≤ n) × (n ≤ highest w)
 InRange (Seed n) = n ≤ 4294967295
 InRange (Node number id place) = (number ≤ last_node) × (id ≤ 255) × (place ≤ 255)
 InRange (Late number start) = (number ≤ last_node) × (start ≤ most_ticks)
+InRange (ToNode number to) = (number ≤ last_node) × (16 ≤ to) × (to ≤ 255)
 InRange (Draw number draw) = (number ≤ last_node) × (draw ≤ last_draw)
 InRange (Offer tick number frame) = (tick ≤ most_ticks) × (number ≤ last_node) × IsFrame frame
+InRange (Noise tick until) = (tick < until) × (until ≤ most_ticks)
 InRange (End last) = (1 ≤ last) × (last ≤ most_ticks)
 
 -- ---- numbers
@@ -168,6 +171,18 @@ fill_line_range (f ∷ g ∷ h ∷ i ∷ []) l e =
     (λ ns made. three_in (up_to most_ticks) (up_to last_node) (up_to 9999999999) (number_of f) (number_of g) (number_of h) ns made) e
 fill_line_range (f ∷ g ∷ h ∷ i ∷ j ∷ fs) l e = cc
 
+lasts_range : (ticks : Result (ℕ × ℕ) ScriptReason) (l : ScriptLine)
+    → ((ns : ℕ × ℕ) → ticks ≡ Ok ns → In (up_to most_ticks) ns.0 × In (up_to most_ticks) ns.1) → lasts ticks ≡ Ok l → InRange l
+lasts_range (Err reason) l near e = cc
+lasts_range (Ok ns) l near e = go (ltb ns.0 ns.1) refl e
+  where
+    go : (b : Bool) → ltb ns.0 ns.1 ≡ b → cond b (Ok (Noise ns.0 ns.1)) (Err OutOfRange) ≡ Ok l → InRange l
+    go true test e =
+        let same : Noise ns.0 ns.1 ≡ l = cc in
+        let there : In (up_to most_ticks) ns.1 = (near ns refl).1 in
+        subst InRange same ((let later = test in grind (arith, nat_tests)), there.1)
+    go false test e = cc
+
 line_by_word_range : (w : Option Word) (fields : List (List ℕ)) (l : ScriptLine) → line_by_word w fields ≡ Ok l → InRange l
 line_by_word_range None fields l e = cc
 line_by_word_range (Some (SetWord w)) fields l e = says_range (λ n. Set w n) (one_number (setting_range w) fields) l (one_of (setting_range w) fields) e
@@ -178,11 +193,16 @@ line_by_word_range (Some NodeWord) fields l e =
 line_by_word_range (Some LateWord) fields l e =
     says_range (λ n. Late n.0 n.1) (two_numbers (up_to last_node) (up_to most_ticks) fields) l
     (λ ns made. (let r = two_of (up_to last_node) (up_to most_ticks) fields ns made in (r.0.1, r.1.1))) e
+line_by_word_range (Some ToNodeWord) fields l e =
+    says_range (λ n. ToNode n.0 n.1) (two_numbers (up_to last_node) (setting_range To) fields) l
+    (λ ns made. (let r = two_of (up_to last_node) (setting_range To) fields ns made in (r.0.1, r.1.0, r.1.1))) e
 line_by_word_range (Some DrawWord) fields l e =
     says_range (λ n. Draw n.0 n.1) (two_numbers (up_to last_node) (up_to last_draw) fields) l
     (λ ns made. (let r = two_of (up_to last_node) (up_to last_draw) fields ns made in (r.0.1, r.1.1))) e
 line_by_word_range (Some OfferWord) fields l e = offer_range fields l e
 line_by_word_range (Some FillWord) fields l e = fill_line_range fields l e
+line_by_word_range (Some NoiseWord) fields l e =
+    lasts_range (two_numbers (up_to most_ticks) (up_to most_ticks) fields) l (two_of (up_to most_ticks) (up_to most_ticks) fields) e
 line_by_word_range (Some EndWord) fields l e =
     says_range (λ n. End n) (one_number (record { least = 1; greatest = most_ticks }) fields) l (one_of (record { least = 1; greatest = most_ticks }) fields) e
 

@@ -10,7 +10,7 @@ use Rattle.std.proofs.lemmas.List.Elements.{All-cons, All-nil}
 use Rattle.t1s_base.specs.Limits.{most_nodes}
 use Rattle.t1s_script.specs.Lines.{lines_of}
 use Rattle.t1s_script.specs.ParsedLine.{ParsedLine, parsed_line}
-use Rattle.t1s_script.specs.Draft.{value_in, draft_start, with_slot, unskipped_after, draft_after, node_of, nodes_from, script_with}
+use Rattle.t1s_script.specs.Draft.{value_in, draft_start, with_slot, new_slot, unskipped_after, draft_after, node_of, nodes_from, script_with}
 use Rattle.t1s_script.specs.Reading.{draw_list, script_after_first, script_in, refused_at}
 use Rattle.t1s_script.specs.ThinForm.{are_thin_nodes, are_thin_after_count, are_thin, have_thin_form, IsThinNode, IsThinScript, ThinScriptsHaveDefaults}
 use Rattle.t1s_script.specs.declared.draft.Draft.{Draft}
@@ -20,9 +20,10 @@ use Rattle.t1s_script.specs.declared.refusals.ScriptRefusal.{ScriptRefusal}
 use Rattle.t1s_script.specs.declared.script.Script.{Script}
 use Rattle.t1s_script.specs.declared.words.Setting.TheVariants.{Count, To, Rise, Fall, Burst, Room}
 use Rattle.t1s_script.specs.declared.words.ScriptLine.{ScriptLine}
-use Rattle.t1s_script.specs.declared.words.ScriptLine.TheVariants.{Skipped, Set, Seed, Node, Late, Draw, Offer, End}
+use Rattle.t1s_script.specs.declared.words.ScriptLine.TheVariants.{Skipped, Set, Seed, Node, Late, ToNode, Draw, Offer, Noise, End}
 use Rattle.t1s_script.proofs.Ranges.{InRange, parsed_line_range}
-use Rattle.t1s_script.proofs.Drafts.{reading_from, by_drafts, any_set, none_free}
+use Rattle.t1s_script.proofs.DraftSteps.{any_set, none_free}
+use Rattle.t1s_script.proofs.Drafts.{reading_from, by_drafts}
 
 -- what reading gives is a thin script
 abbrev Reads : Result Script ScriptRefusal → Type 0
@@ -30,6 +31,7 @@ Reads r = (s : Script) × (r ≡ Ok s) × IsThinScript s
 
 -- only the `node` line of that number stood
 record IsPlain (slot : Slot) : Type 0 where
+  pub to : slot.to ≡ None
   pub start : slot.start ≡ None
   pub draws : slot.draws ≡ []
 
@@ -55,7 +57,7 @@ nodes_thin to number [] timer h = All-nil IsThinNode
 nodes_thin to number (None ∷ slots) timer h = nodes_thin to (number + 1) slots timer (λ i slot e. h (suc i) slot e)
 nodes_thin to number (Some slot ∷ slots) timer h =
     All-cons IsThinNode (node_of to number slot) (nodes_from to (number + 1) slots)
-    (record { to = timer; start = ap (λ o. unwrap_or o 0) (h 0 slot refl).start; draws = ap draw_list (h 0 slot refl).draws })
+    (record { to = ap (λ o. unwrap_or o to) (h 0 slot refl).to ∙ timer; start = ap (λ o. unwrap_or o 0) (h 0 slot refl).start; draws = ap draw_list (h 0 slot refl).draws })
     (nodes_thin to (number + 1) slots timer (λ i s e. h (suc i) s e))
 
 script_thin : (least : ℕ) (d : Draft) (last : ℕ) → IsThinDraft least d → IsThinScript (script_with (record d { end = Some last }) last)
@@ -88,15 +90,12 @@ plain_set (o ∷ os) zero new none h (suc i) slot e = h (suc i) slot e
 plain_set (o ∷ os) (suc k) new none h zero slot e = h zero slot e
 plain_set (o ∷ os) (suc k) new none h (suc i) slot e = plain_set os k new none (λ j s f. h (suc j) s f) i slot e
 
-abbrev slot_of : ℕ → ℕ → Slot
-slot_of id place = record { id = id; place = place; start = None; draws = [] }
-
-node_taken : (least number id place : ℕ) (d : Draft) → IsThinDraft least d → least ≤ number → draft_after d (Ok (Node number id place)) ≡ Ok (with_slot d number (slot_of id place))
+node_taken : (least number id place : ℕ) (d : Draft) → IsThinDraft least d → least ≤ number → draft_after d (Ok (Node number id place)) ≡ Ok (with_slot d number (new_slot id place))
 node_taken least number id place d h above =
     ap (λ o. unskipped_after d o (Ok (Node number id place))) h.end
-    ∙ ap (λ o. cond (is_some o) (Err Twice) (Ok (with_slot d number (slot_of id place)))) (h.free number above)
+    ∙ ap (λ o. cond (is_some o) (Err Twice) (Ok (with_slot d number (new_slot id place)))) (h.free number above)
 
-node_thin : (least number id place : ℕ) (d : Draft) → IsThinDraft least d → least ≤ number → IsThinDraft (number + 1) (with_slot d number (slot_of id place))
+node_thin : (least number id place : ℕ) (d : Draft) → IsThinDraft least d → least ≤ number → IsThinDraft (number + 1) (with_slot d number (new_slot id place))
 node_thin least number id place d h above = record {
   to = h.to;
   rise = h.rise;
@@ -105,9 +104,9 @@ node_thin least number id place d h above = record {
   room = h.room;
   seed = h.seed;
   end = h.end;
-  size = length-set d.slots number (Some (slot_of id place)) ∙ h.size;
-  free = λ i high. free_set d.slots number (slot_of id place) i (omega arith) (h.free i (omega arith));
-  plain = plain_set d.slots number (slot_of id place) (record { start = refl; draws = refl }) h.plain;
+  size = length-set d.slots number (Some (new_slot id place)) ∙ h.size;
+  free = λ i high. free_set d.slots number (new_slot id place) i (omega arith) (h.free i (omega arith));
+  plain = plain_set d.slots number (new_slot id place) (record { to = refl; start = refl; draws = refl }) h.plain;
   acts = h.acts;
   latest = h.latest;
 }
@@ -124,7 +123,7 @@ ended number least d last some h any =
     (script_with (record d { end = Some last }) last, ap (λ r. reading_from (number + 1) r []) taken, script_thin least d last h)
 
 -- a `node` line, where the lines after it are read
-node_read : (number least n id place : ℕ) (d : Draft) (rest : List ParsedLine) → IsThinDraft least d → least ≤ n → Reads (reading_from (number + 1) (Ok (with_slot d n (slot_of id place))) rest) → Reads (reading_from number (Ok d) (Ok (Node n id place) ∷ rest))
+node_read : (number least n id place : ℕ) (d : Draft) (rest : List ParsedLine) → IsThinDraft least d → least ≤ n → Reads (reading_from (number + 1) (Ok (with_slot d n (new_slot id place))) rest) → Reads (reading_from number (Ok d) (Ok (Node n id place) ∷ rest))
 node_read number least n id place d rest h above later =
     (later.0, ap (λ r. reading_from (number + 1) r rest) (node_taken least n id place d h above) ∙ later.1, later.2)
 
@@ -136,8 +135,10 @@ one_read number least d (Ok Skipped) rest range h any next thin = cc
 one_read number least d (Ok (Set w n)) rest range h any next thin = cc
 one_read number least d (Ok (Seed n)) rest range h any next thin = cc
 one_read number least d (Ok (Late n start)) rest range h any next thin = cc
+one_read number least d (Ok (ToNode n to)) rest range h any next thin = cc
 one_read number least d (Ok (Draw n draw)) rest range h any next thin = cc
 one_read number least d (Ok (Offer tick n frame)) rest range h any next thin = cc
+one_read number least d (Ok (Noise tick until)) rest range h any next thin = cc
 one_read number least d (Ok (End last)) [] range h any next thin = ended number least d last (range (End last) refl).0 h any
 one_read number least d (Ok (End last)) (y ∷ ys) range h any next thin = cc
 one_read number least d (Ok (Node n id place)) rest range h any next thin =
@@ -146,7 +147,7 @@ one_read number least d (Ok (Node n id place)) rest range h any next thin =
     let above : least ≤ n = (let test = first_holds in grind (arith, nat_tests)) in
     let few = (range (Node n id place) refl).0 in
     node_read number least n id place d rest h above
-    (next (n + 1) (with_slot d n (slot_of id place)) (node_thin least n id place d h above) (any_set d.slots n (slot_of id place) (omega (arith, h.size))) second_holds)
+    (next (n + 1) (with_slot d n (new_slot id place)) (node_thin least n id place d h above) (any_set d.slots n (new_slot id place) (omega (arith, h.size))) second_holds)
 
 nodes_read : (number least : ℕ) (d : Draft) (lines : List (List ℕ)) → IsThinDraft least d → list_any is_some d.slots ≡ true → are_thin_nodes least (map parsed_line lines) ≡ true → Reads (reading_from number (Ok d) (map parsed_line lines))
 nodes_read number least d [] h any thin = cc
@@ -164,13 +165,15 @@ after_count_read number d (line ∷ lines) h thin = go (parsed_line line) (parse
     go (Ok (Set w n)) range thin = cc
     go (Ok (Seed n)) range thin = cc
     go (Ok (Late n start)) range thin = cc
+    go (Ok (ToNode n to)) range thin = cc
     go (Ok (Draw n draw)) range thin = cc
     go (Ok (Offer tick n frame)) range thin = cc
+    go (Ok (Noise tick until)) range thin = cc
     go (Ok (End last)) range thin = cc
     go (Ok (Node n id place)) range thin =
         let few = (range (Node n id place) refl).0 in
         node_read number 0 n id place d (map parsed_line lines) h (omega arith)
-        (nodes_read (number + 1) (n + 1) (with_slot d n (slot_of id place)) lines (node_thin 0 n id place d h (omega arith)) (any_set d.slots n (slot_of id place) (omega (arith, h.size))) thin)
+        (nodes_read (number + 1) (n + 1) (with_slot d n (new_slot id place)) lines (node_thin 0 n id place d h (omega arith)) (any_set d.slots n (new_slot id place) (omega (arith, h.size))) thin)
 
 -- after the line `count N`
 abbrev counted : ℕ → Draft
@@ -202,8 +205,10 @@ lines_read (line ∷ lines) thin = go (parsed_line line) thin
     go (Ok (Seed n)) thin = cc
     go (Ok (Node n id place)) thin = cc
     go (Ok (Late n start)) thin = cc
+    go (Ok (ToNode n to)) thin = cc
     go (Ok (Draw n draw)) thin = cc
     go (Ok (Offer tick n frame)) thin = cc
+    go (Ok (Noise tick until)) thin = cc
     go (Ok (End last)) thin = cc
     go (Ok (Set To n)) thin = cc
     go (Ok (Set Rise n)) thin = cc

@@ -1,12 +1,12 @@
 -- The script that reading gives is valid.
 use Rattle.std.proofs.Common.{◌≡◌, ℕ, zero, suc, ◌+◌, ◌<◌, ◌≤◌, Bool, true, false, cond, leb, ltb, List, [], ◌∷◌, ◌++◌, length, length-append, get_or, map, set, Option, Some, None, Result, Ok, Err, refl, sym, ap, ◌∙◌, subst, arith, unwrap_or, replicate, All, ◌-◌}
-use Rattle.std.specs.Prelude.{is_some, not, codes, IfOk, filter_map}
+use Rattle.std.specs.Prelude.{is_some, codes, IfOk, filter_map}
 use Rattle.std.specs.Str.{bytes_eq}
 use Rattle.std.specs.List.{list_any, range_with_len}
 use Rattle.std.specs.List.Sorted.{IsNonDecreasing, IsStrictlyIncreasing}
 use Rattle.std.proofs.Math.ListN.{length-set}
 use Rattle.std.proofs.lemmas.Bool.Decides.{nat_tests}
-use Rattle.std.proofs.lemmas.List.{length-map, map-append}
+use Rattle.std.proofs.lemmas.List.{append-nil, length-map, map-append}
 use Rattle.std.proofs.lemmas.List.Elements.{All-append, All-cons, All-nil, filter_map-append}
 use Rattle.std.proofs.lemmas.List.FromFn.{length-range_with_len, get_or-range_with_len}
 use Rattle.std.proofs.lemmas.List.Sorted.{IsNonDecreasingBy-push}
@@ -16,9 +16,9 @@ use Rattle.t1s_script.specs.Lines.{lines_of}
 use Rattle.t1s_script.specs.Settings.{lowest, highest, default_of}
 use Rattle.t1s_script.specs.Limits.{most_acts, most_draws, last_draw}
 use Rattle.t1s_script.specs.ParsedLine.{ParsedLine, parsed_line}
-use Rattle.t1s_script.specs.Draft.{given, with_given, value_in, draft_start, slot_at, with_slot, set_after, seed_after, node_after, late_in_slot, late_after, draw_in_slot, draw_after, with_offer, offer_after, end_after, line_after, unskipped_after, draft_after, nodes_from, script_with, script_at}
-use Rattle.t1s_script.specs.Script.{IsAct, IsDeed, IsScript, numbers_of, offer_number}
-use Rattle.t1s_script.specs.Reading.{offer_act, script_after_first, script_in, script_of, refused_at, IsAnswer, ReadScriptsAreValid}
+use Rattle.t1s_script.specs.Draft.{given, with_given, value_in, draft_start, slot_at, with_slot, set_after, seed_after, node_after, new_slot, once_in_slot, late_after, timer_after, draw_in_slot, draw_after, with_act, timed_after, offer_after, end_after, line_after, unskipped_after, draft_after, nodes_from, script_with, script_at}
+use Rattle.t1s_script.specs.Script.{IsAct, IsDeed, IsScript, numbers_of, number_in, offer_number, offers_in}
+use Rattle.t1s_script.specs.Reading.{act_at, script_after_first, script_in, script_of, refused_at, IsAnswer, ReadScriptsAreValid}
 use Rattle.t1s_script.specs.declared.refusals.ScriptFault.{ScriptFault}
 use Rattle.t1s_script.specs.declared.refusals.ScriptFault.TheVariants.{Refused, Memory}
 use Rattle.t1s_script.specs.declared.draft.Draft.{Draft}
@@ -33,8 +33,9 @@ use Rattle.t1s_script.specs.declared.script.Script.{Script}
 use Rattle.t1s_script.specs.declared.words.Setting.{Setting}
 use Rattle.t1s_script.specs.declared.words.Setting.TheVariants.{Count, To, Rise, Fall, Burst, Room}
 use Rattle.t1s_script.specs.declared.words.ScriptLine.{ScriptLine}
-use Rattle.t1s_script.specs.declared.words.ScriptLine.TheVariants.{Skipped, Set, Seed, Node, Late, Draw, Offer, End}
+use Rattle.t1s_script.specs.declared.words.ScriptLine.TheVariants.{Skipped, Set, Seed, Node, Late, ToNode, Draw, Offer, Noise, End}
 use Rattle.t1s_script.proofs.Ranges.{InRange, parsed_line_range}
+use Rattle.t1s_script.proofs.LineActs.{length-filter_map, offers_in-append}
 use Rattle.t1s_script.proofs.Drafts.{reading_from, by_drafts}
 use Rattle.t1s_script.proofs.Nodes.{IsSlot, AreSlots, nodes_range, length-nodes_from, some_node, nodes_increase, number_stands}
 
@@ -52,15 +53,15 @@ pub record AreSettings (s : Settings) : Type 0 where
 
 -- ---- acts
 
--- an offer of a frame to a node that stood
-abbrev pub IsOffered : List (Option Slot) → ℕ → Deed → Type 0
-IsOffered slots count (OfferDeed number node frame) = (1 ≤ number) × (number ≤ count) × (is_some (get_or slots node None) ≡ true) × IsFrame frame
-IsOffered slots count (NoiseDeed until) = ⊥
+-- an offer of a frame to a node that stood, or a noise that ends above its tick
+abbrev pub IsDone : List (Option Slot) → ℕ → ℕ → Deed → Type 0
+IsDone slots count tick (OfferDeed number node frame) = (1 ≤ number) × (number ≤ count) × (is_some (get_or slots node None) ≡ true) × IsFrame frame
+IsDone slots count tick (NoiseDeed until) = (tick < until) × (until ≤ most_ticks)
 
 -- an act among so many, of which none has a later tick than that
 pub record IsTimed (slots : List (Option Slot)) (count latest : ℕ) (a : Act) : Type 0 where
   pub early : a.tick ≤ latest
-  pub deed : IsOffered slots count a.deed
+  pub deed : IsDone slots count a.tick a.deed
 
 abbrev ticks : List Act → List ℕ
 ticks acts = map (λ (a : Act). a.tick) acts
@@ -69,7 +70,7 @@ ticks acts = map (λ (a : Act). a.tick) acts
 pub record AreActs (slots : List (Option Slot)) (held : List Act) (latest : ℕ) : Type 0 where
   pub few : length held ≤ most_acts
   pub in_order : IsNonDecreasing (ticks held)
-  pub numbered : filter_map offer_number held ≡ range_with_len 1 (length held)
+  pub numbered : filter_map offer_number held ≡ range_with_len 1 (offers_in held)
   pub each : All (IsTimed slots (length held) latest) held
 
 no_acts : (slots : List (Option Slot)) (latest : ℕ) → AreActs slots [] latest
@@ -85,12 +86,12 @@ all_timed : (slots more : List (Option Slot)) (count most latest last : ℕ) (he
     → count ≤ most → latest ≤ last → All (IsTimed slots count latest) held → All (IsTimed more most last) held
 all_timed slots more count most latest last held stand few low h k d below = timed (get_or held k d) (h k d below)
   where
-    offered : (x : Deed) → IsOffered slots count x → IsOffered more most x
-    offered (OfferDeed number node frame) o = (o.0, omega (arith, o.1), stand node o.2, o.3)
-    offered (NoiseDeed until) o = absurd o
+    done : (tick : ℕ) (x : Deed) → IsDone slots count tick x → IsDone more most tick x
+    done tick (OfferDeed number node frame) o = (o.0, omega (arith, o.1), stand node o.2, o.3)
+    done tick (NoiseDeed until) o = o
 
     timed : (a : Act) → IsTimed slots count latest a → IsTimed more most last a
-    timed a t = record { early = omega (arith, t.early); deed = offered a.deed t.deed }
+    timed a t = record { early = omega (arith, t.early); deed = done a.tick a.deed t.deed }
 
 range_more : (a n : ℕ) → range_with_len a n ++ (a + n) ∷ [] ≡ range_with_len a (suc n)
 range_more a zero = let same : a + 0 ≡ a = omega arith in ap (λ k. k ∷ []) same
@@ -114,22 +115,32 @@ last_early slots count latest held h d some =
     go (x ∷ xs) zero low below = low 0 x below
     go (x ∷ xs) (suc i) low below = go xs i (λ k e under. low (suc k) e (omega arith)) (omega arith)
 
-one_more_act : (slots : List (Option Slot)) (held : List Act) (latest tick node : ℕ) (frame : List ℕ) → AreActs slots held latest
-    → latest ≤ tick → length held < most_acts → is_some (get_or slots node None) ≡ true → IsFrame frame
-    → AreActs slots (held ++ offer_act (1 + length held, (tick, node, frame)) ∷ []) tick
-one_more_act slots held latest tick node frame h order few known whole =
-    let act : Act = offer_act (1 + length held, (tick, node, frame)) in
+-- the numbers of the offers among some acts and one more
+numbers_more : (held : List Act) (tick : ℕ) (x : Deed) → filter_map offer_number held ≡ range_with_len 1 (offers_in held) → ((number : ℕ) → number_in x ≡ Some number → number ≡ 1 + offers_in held)
+    → filter_map offer_number (held ++ act_at tick x ∷ []) ≡ range_with_len 1 (offers_in (held ++ act_at tick x ∷ []))
+numbers_more held tick (OfferDeed number node frame) numbered next =
+    let act : Act = act_at tick (OfferDeed number node frame) in
+    let size : offers_in (held ++ act ∷ []) ≡ suc (offers_in held) = omega (arith, offers_in-append held (act ∷ [])) in
+    filter_map-append offer_number held (act ∷ []) ∙ ap (λ ns. ns ++ number ∷ []) numbered ∙ ap (λ n. range_with_len 1 (offers_in held) ++ n ∷ []) (next number refl)
+    ∙ range_more 1 (offers_in held) ∙ ap (range_with_len 1) (sym size)
+numbers_more held tick (NoiseDeed until) numbered next =
+    let act : Act = act_at tick (NoiseDeed until) in
+    let size : offers_in (held ++ act ∷ []) ≡ offers_in held = omega (arith, offers_in-append held (act ∷ [])) in
+    filter_map-append offer_number held (act ∷ []) ∙ append-nil (filter_map offer_number held) ∙ numbered ∙ ap (range_with_len 1) (sym size)
+
+one_more_act : (slots : List (Option Slot)) (held : List Act) (latest tick : ℕ) (x : Deed) → AreActs slots held latest → latest ≤ tick → length held < most_acts
+    → IsDone slots (suc (length held)) tick x → ((number : ℕ) → number_in x ≡ Some number → number ≡ 1 + offers_in held) → AreActs slots (held ++ act_at tick x ∷ []) tick
+one_more_act slots held latest tick x h order few done next =
+    let act : Act = act_at tick x in
     let size : length (held ++ act ∷ []) ≡ suc (length held) = omega (arith, length-append held (act ∷ [])) in
     let earlier = all_timed slots slots (length held) (length (held ++ act ∷ [])) latest tick held (λ i taken. taken) (omega arith) order h.each in
-    let here : IsTimed slots (length (held ++ act ∷ [])) tick act = record { early = omega arith; deed = (omega arith, omega arith, known, whole) } in
-    let first : ℕ = 1 + length held in
+    let here : IsTimed slots (length (held ++ act ∷ [])) tick act = record { early = omega arith; deed = subst (λ n. IsDone slots n tick x) (sym size) done } in
     record {
       few = omega arith;
       in_order =
           subst IsNonDecreasing (sym (map-append (λ (a : Act). a.tick) held (act ∷ [])))
           (IsNonDecreasingBy-push (λ x. x) (ticks held) tick h.in_order (λ d some. omega (arith, last_early slots (length held) latest held h.each d some)));
-      numbered =
-          filter_map-append offer_number held (act ∷ []) ∙ ap (λ ns. ns ++ first ∷ []) h.numbered ∙ range_more 1 (length held) ∙ ap (range_with_len 1) (sym size);
+      numbered = numbers_more held tick x h.numbered next;
       each = All-append (IsTimed slots (length (held ++ act ∷ [])) tick) held (act ∷ []) earlier (All-cons (IsTimed slots (length (held ++ act ∷ [])) tick) act [] here (All-nil (IsTimed slots (length (held ++ act ∷ [])) tick)));
     }
 
@@ -228,25 +239,33 @@ module _ (d : Draft) (h : IsDraft d) (open_end : d.end ≡ None) where
   node_valid : (number id place : ℕ) (e : Draft) → (number ≤ last_node) × (id ≤ 255) × (place ≤ 255) → node_after d number id place ≡ Ok e → IsDraft e
   node_valid number id place e range is = go (is_some (slot_at d number)) is
     where
-      go : (b : Bool) → cond b (Err Twice) (Ok (with_slot d number (record { id = id; place = place; start = None; draws = [] }))) ≡ Ok e → IsDraft e
+      go : (b : Bool) → cond b (Err Twice) (Ok (with_slot d number (new_slot id place))) ≡ Ok e → IsDraft e
       go true is = cc
       go false is =
-          let same : with_slot d number (record { id = id; place = place; start = None; draws = [] }) ≡ e = cc in
-          subst IsDraft same (slot_valid number (record { id = id; place = place; start = None; draws = [] }) (record { id = range.1; place = range.2; start = λ t f. cc; few_draws = omega arith; draws = All-nil (λ draw. draw ≤ last_draw) }))
+          let same : with_slot d number (new_slot id place) ≡ e = cc in
+          subst IsDraft same (slot_valid number (new_slot id place) (record { id = range.1; place = range.2; to = λ n f. cc; start = λ t f. cc; few_draws = omega arith; draws = All-nil (λ draw. draw ≤ last_draw) }))
 
-  late_valid : (number start : ℕ) (e : Draft) → (number ≤ last_node) × (start ≤ most_ticks) → late_after d number start ≡ Ok e → IsDraft e
-  late_valid number start e range is = at (slot_at d number) refl is
+  -- a line that may stand once for a node, where what it puts into a slot is in range
+  once_valid : (number : ℕ) (stood : Slot → Option ℕ) (put : Slot → Slot) (e : Draft) → ((slot : Slot) → IsSlot slot → IsSlot (put slot)) → once_in_slot d number stood put (slot_at d number) ≡ Ok e → IsDraft e
+  once_valid number stood put e keeps is = at (slot_at d number) refl is
     where
-      at : (o : Option Slot) → slot_at d number ≡ o → late_in_slot d number start o ≡ Ok e → IsDraft e
+      at : (o : Option Slot) → slot_at d number ≡ o → once_in_slot d number stood put o ≡ Ok e → IsDraft e
       at None here is = cc
-      at (Some slot) here is = go (is_some slot.start) is
+      at (Some slot) here is = go (is_some (stood slot)) is
         where
-          go : (b : Bool) → cond b (Err Twice) (Ok (with_slot d number (record slot { start = Some start }))) ≡ Ok e → IsDraft e
+          go : (b : Bool) → cond b (Err Twice) (Ok (with_slot d number (put slot))) ≡ Ok e → IsDraft e
           go true is = cc
           go false is =
-              let same : with_slot d number (record slot { start = Some start }) ≡ e = cc in
-              let old : IsSlot slot = h.slots.each number slot here in
-              subst IsDraft same (slot_valid number (record slot { start = Some start }) (record { id = old.id; place = old.place; start = λ t f. (let now : start ≡ t = cc in subst (λ k. k ≤ most_ticks) now range.1); few_draws = old.few_draws; draws = old.draws }))
+              let same : with_slot d number (put slot) ≡ e = cc in
+              subst IsDraft same (slot_valid number (put slot) (keeps slot (h.slots.each number slot here)))
+
+  late_valid : (number start : ℕ) (e : Draft) → start ≤ most_ticks → late_after d number start ≡ Ok e → IsDraft e
+  late_valid number start e range is = once_valid number (λ s. s.start) (λ s. record s { start = Some start }) e
+      (λ slot old. record { id = old.id; place = old.place; to = old.to; start = λ t f. (let now : start ≡ t = cc in subst (λ k. k ≤ most_ticks) now range); few_draws = old.few_draws; draws = old.draws }) is
+
+  timer_valid : (number to : ℕ) (e : Draft) → (16 ≤ to) × (to ≤ 255) → timer_after d number to ≡ Ok e → IsDraft e
+  timer_valid number to e range is = once_valid number (λ s. s.to) (λ s. record s { to = Some to }) e
+      (λ slot old. record { id = old.id; place = old.place; to = λ n f. (let now : to ≡ n = cc in subst (λ k. (16 ≤ k) × (k ≤ 255)) now range); start = old.start; few_draws = old.few_draws; draws = old.draws }) is
 
   draw_valid : (number draw : ℕ) (e : Draft) → (number ≤ last_node) × (draw ≤ last_draw) → draw_after d number draw ≡ Ok e → IsDraft e
   draw_valid number draw e range is = at (slot_at d number) refl is
@@ -266,21 +285,20 @@ module _ (d : Draft) (h : IsDraft d) (open_end : d.end ≡ None) where
               subst IsDraft same (slot_valid number (record slot { draws = slot.draws ++ draw ∷ [] }) (record {
                 id = old.id;
                 place = old.place;
+                to = old.to;
                 start = old.start;
                 few_draws = omega (arith, length-append slot.draws (draw ∷ []));
                 draws = All-append low slot.draws (draw ∷ []) old.draws (All-cons low draw [] small (All-nil low));
               }))
 
-  offer_valid : (tick number : ℕ) (frame : List ℕ) (e : Draft) → IsFrame frame → offer_after d tick number frame ≡ Ok e → IsDraft e
-  offer_valid tick number frame e whole is = go (is_some (slot_at d number)) (ltb tick d.latest) (leb most_acts (length d.acts)) refl refl refl is
+  timed_valid : (tick : ℕ) (x : Deed) (e : Draft) → IsDone d.slots (suc (length d.acts)) tick x → ((number : ℕ) → number_in x ≡ Some number → number ≡ 1 + offers_in d.acts) → timed_after d tick x ≡ Ok e → IsDraft e
+  timed_valid tick x e done next is = go (ltb tick d.latest) (leb most_acts (length d.acts)) refl refl is
     where
-      go : (known early many : Bool) → is_some (slot_at d number) ≡ known → ltb tick d.latest ≡ early → leb most_acts (length d.acts) ≡ many
-          → cond (not known) (Err UnknownNode) (cond early (Err Order) (cond many (Err TooMany) (Ok (with_offer d tick number frame)))) ≡ Ok e → IsDraft e
-      go false early many stood order count is = cc
-      go true true many stood order count is = cc
-      go true false true stood order count is = cc
-      go true false false stood order count is =
-          let same : with_offer d tick number frame ≡ e = cc in
+      go : (early many : Bool) → ltb tick d.latest ≡ early → leb most_acts (length d.acts) ≡ many → cond early (Err Order) (cond many (Err TooMany) (Ok (with_act d (act_at tick x)))) ≡ Ok e → IsDraft e
+      go true many order count is = cc
+      go false true order count is = cc
+      go false false order count is =
+          let same : with_act d (act_at tick x) ≡ e = cc in
           let later : d.latest ≤ tick = (let test = order in grind (arith, nat_tests)) in
           let room : length d.acts < most_acts = (let test = count in grind (arith, nat_tests)) in
           subst IsDraft same (record {
@@ -288,9 +306,19 @@ module _ (d : Draft) (h : IsDraft d) (open_end : d.end ≡ None) where
             seed = h.seed;
             slots = h.slots;
             size = h.size;
-            acts = one_more_act d.slots d.acts d.latest tick number frame h.acts later room stood whole;
+            acts = one_more_act d.slots d.acts d.latest tick x h.acts later room done next;
             end = λ last f. cc;
           })
+
+  offer_valid : (tick number : ℕ) (frame : List ℕ) (e : Draft) → IsFrame frame → offer_after d tick number frame ≡ Ok e → IsDraft e
+  offer_valid tick number frame e whole is = go (is_some (slot_at d number)) refl is
+    where
+      go : (known : Bool) → is_some (slot_at d number) ≡ known → cond known (timed_after d tick (OfferDeed (1 + offers_in d.acts) number frame)) (Err UnknownNode) ≡ Ok e → IsDraft e
+      go false stood is = cc
+      go true stood is = timed_valid tick (OfferDeed (1 + offers_in d.acts) number frame) e (omega arith, omega (arith, length-filter_map offer_number d.acts), stood, whole) (λ n f. (let same : 1 + offers_in d.acts ≡ n = cc in sym same)) is
+
+  noise_valid : (tick until : ℕ) (e : Draft) → (tick < until) × (until ≤ most_ticks) → timed_after d tick (NoiseDeed until) ≡ Ok e → IsDraft e
+  noise_valid tick until e range is = timed_valid tick (NoiseDeed until) e range (λ n f. cc) is
 
   end_valid : (last : ℕ) (e : Draft) → (1 ≤ last) × (last ≤ most_ticks) → end_after d last ≡ Ok e → IsDraft e
   end_valid last e range is = order (leb last d.latest) refl is
@@ -310,9 +338,11 @@ module _ (d : Draft) (h : IsDraft d) (open_end : d.end ≡ None) where
   line_valid (Set w m) e range is = set_valid w m e range is
   line_valid (Seed m) e range is = seed_valid m e range is
   line_valid (Node number id place) e range is = node_valid number id place e range is
-  line_valid (Late number start) e range is = late_valid number start e range is
+  line_valid (Late number start) e range is = late_valid number start e range.1 is
+  line_valid (ToNode number to) e range is = timer_valid number to e (range.1, range.2) is
   line_valid (Draw number draw) e range is = draw_valid number draw e range is
   line_valid (Offer tick number frame) e range is = offer_valid tick number frame e range.2 is
+  line_valid (Noise tick until) e range is = noise_valid tick until e range is
   line_valid (End last) e range is = end_valid last e range is
 
 unskipped_valid : (d : Draft) (o : Option ℕ) (l : ScriptLine) (e : Draft) → IsDraft d → d.end ≡ o → InRange l → unskipped_after d o (Ok l) ≡ Ok e → IsDraft e
@@ -330,8 +360,10 @@ draft_valid d (Ok (Set w m)) e h range is = unskipped_valid d d.end (Set w m) e 
 draft_valid d (Ok (Seed m)) e h range is = unskipped_valid d d.end (Seed m) e h refl (range (Seed m) refl) is
 draft_valid d (Ok (Node number id place)) e h range is = unskipped_valid d d.end (Node number id place) e h refl (range (Node number id place) refl) is
 draft_valid d (Ok (Late number start)) e h range is = unskipped_valid d d.end (Late number start) e h refl (range (Late number start) refl) is
+draft_valid d (Ok (ToNode number to)) e h range is = unskipped_valid d d.end (ToNode number to) e h refl (range (ToNode number to) refl) is
 draft_valid d (Ok (Draw number draw)) e h range is = unskipped_valid d d.end (Draw number draw) e h refl (range (Draw number draw) refl) is
 draft_valid d (Ok (Offer tick number frame)) e h range is = unskipped_valid d d.end (Offer tick number frame) e h refl (range (Offer tick number frame) refl) is
+draft_valid d (Ok (Noise tick until)) e h range is = unskipped_valid d d.end (Noise tick until) e h refl (range (Noise tick until) refl) is
 draft_valid d (Ok (End last)) e h range is = unskipped_valid d d.end (End last) e h refl (range (End last) refl) is
 
 -- ---- the script of all lines
@@ -348,9 +380,9 @@ seed_range (Some n) h = h n refl
 acts_valid : (to last count latest : ℕ) (slots : List (Option Slot)) (held : List Act) → count ≤ most_acts → latest < last → All (IsTimed slots count latest) held → All (IsAct (numbers_of (nodes_from to 0 slots)) last) held
 acts_valid to last count latest slots held few above h k d below = valid (get_or held k d) (h k d below)
   where
-    done : (tick : ℕ) (x : Deed) → IsOffered slots count x → IsDeed (numbers_of (nodes_from to 0 slots)) tick x
+    done : (tick : ℕ) (x : Deed) → IsDone slots count tick x → IsDeed (numbers_of (nodes_from to 0 slots)) tick x
     done tick (OfferDeed number node frame) o = (o.0, omega (arith, o.1), number_stands to 0 node slots node (omega arith) o.2, o.3)
-    done tick (NoiseDeed until) o = absurd o
+    done tick (NoiseDeed until) o = o
 
     valid : (a : Act) → IsTimed slots count latest a → IsAct (numbers_of (nodes_from to 0 slots)) last a
     valid a t = record { before_end = omega (arith, t.early); deed = done a.tick a.deed t.deed }
@@ -385,7 +417,7 @@ script_valid d last h is =
       end_high = end.1;
       few_acts = h.acts.few;
       acts_in_order = h.acts.in_order;
-      offers_in_order = subst IsStrictlyIncreasing (sym h.acts.numbered) (range_increases 1 (length d.acts));
+      offers_in_order = subst IsStrictlyIncreasing (sym h.acts.numbered) (range_increases 1 (offers_in d.acts));
       acts = acts_valid (value_in d.settings To) last (length d.acts) d.latest d.slots d.acts h.acts.few end.3 h.acts.each;
     }
 

@@ -1,12 +1,13 @@
 -- What the code keeps of the lines that it has read, and how it takes one more line. What a script is doesn't rest
 -- on it: that stands in Reading, and proofs/Drafts shows that both agree.
-use Rattle.std.specs.Prelude.{ℕ, ◌+◌, ◌≡◌, ⊤, List, [], ◌∷◌, ◌++◌, length, nat_le, nat_lt, not, replicate, get_or, slice_set, is_some, unwrap_or, Option, Some, None, Result, Ok, Err, if◌then◌else◌}
+use Rattle.std.specs.Prelude.{ℕ, ◌+◌, ◌≡◌, ⊤, List, [], ◌∷◌, ◌++◌, length, nat_le, nat_lt, replicate, get_or, slice_set, is_some, unwrap_or, Option, Some, None, Result, Ok, Err, if◌then◌else◌}
 use Rattle.std.specs.List.{list_any}
 use Rattle.t1s_base.specs.Limits.{most_nodes}
 use Rattle.t1s_script.specs.Settings.{default_of}
 use Rattle.t1s_script.specs.Limits.{most_acts, most_draws}
 use Rattle.t1s_script.specs.ParsedLine.{ParsedLine}
-use Rattle.t1s_script.specs.Reading.{refused_at, draw_list, offer_act}
+use Rattle.t1s_script.specs.Reading.{refused_at, draw_list, act_at}
+use Rattle.t1s_script.specs.Script.{offers_in}
 use Rattle.t1s_script.specs.declared.draft.Draft.{Draft}
 use Rattle.t1s_script.specs.declared.draft.Settings.{Settings}
 use Rattle.t1s_script.specs.declared.draft.Slot.{Slot}
@@ -17,12 +18,15 @@ use Rattle.t1s_script.specs.declared.refusals.ScriptFault.TheVariants.{Refused, 
 use Rattle.t1s_script.specs.declared.refusals.ScriptReason.{ScriptReason}
 use Rattle.t1s_script.specs.declared.refusals.ScriptReason.TheVariants.{AfterEnd, Twice, UnknownNode, Order, TooMany, NoNode, NoEnd}
 use Rattle.t1s_script.specs.declared.refusals.ScriptRefusal.{ScriptRefusal}
+use Rattle.t1s_script.specs.declared.script.Act.{Act}
+use Rattle.t1s_script.specs.declared.script.Deed.{Deed}
+use Rattle.t1s_script.specs.declared.script.Deed.TheVariants.{Offer as OfferDeed, Noise as NoiseDeed}
 use Rattle.t1s_script.specs.declared.script.NodeLine.{NodeLine}
 use Rattle.t1s_script.specs.declared.script.Script.{Script}
 use Rattle.t1s_script.specs.declared.words.Setting.{Setting}
 use Rattle.t1s_script.specs.declared.words.Setting.TheVariants.{Count, To, Rise, Fall, Burst, Room}
 use Rattle.t1s_script.specs.declared.words.ScriptLine.{ScriptLine}
-use Rattle.t1s_script.specs.declared.words.ScriptLine.TheVariants.{Skipped, Set, Seed, Node, Late, Draw, Offer, End}
+use Rattle.t1s_script.specs.declared.words.ScriptLine.TheVariants.{Skipped, Set, Seed, Node, Late, ToNode, Draw, Offer, Noise, End}
 
 -- ---- the settings
 
@@ -73,17 +77,26 @@ set_after d w n = if is_some (given d.settings w) then Err Twice else Ok (record
 abbrev pub seed_after : Draft → ℕ → Result Draft ScriptReason
 seed_after d n = if is_some d.seed then Err Twice else Ok (record d { seed = Some n })
 
+-- the slot of a node of which nothing but its `node` line stood
+abbrev pub new_slot : ℕ → ℕ → Slot
+new_slot id place = record { id = id; place = place; to = None; start = None; draws = [] }
+
 abbrev pub node_after : Draft → ℕ → ℕ → ℕ → Result Draft ScriptReason
 node_after d number id place =
-    if is_some (slot_at d number) then Err Twice else Ok (with_slot d number (record { id = id; place = place; start = None; draws = [] }))
+    if is_some (slot_at d number) then Err Twice else Ok (with_slot d number (new_slot id place))
 
-abbrev pub late_in_slot : Draft → ℕ → ℕ → Option Slot → Result Draft ScriptReason
-late_in_slot d number start (Some slot) =
-    if is_some slot.start then Err Twice else Ok (with_slot d number (record slot { start = Some start }))
-late_in_slot d number start None = Err UnknownNode
+-- a line that may stand once for a node: what it gives is put into the slot, where nothing of it stands yet
+abbrev pub once_in_slot : Draft → ℕ → (Slot → Option ℕ) → (Slot → Slot) → Option Slot → Result Draft ScriptReason
+once_in_slot d number stood put (Some slot) = if is_some (stood slot) then Err Twice else Ok (with_slot d number (put slot))
+once_in_slot d number stood put None = Err UnknownNode
 
 abbrev pub late_after : Draft → ℕ → ℕ → Result Draft ScriptReason
-late_after d number start = late_in_slot d number start (slot_at d number)
+late_after d number start =
+    once_in_slot d number (λ (slot : Slot). slot.start) (λ (slot : Slot). record slot { start = Some start }) (slot_at d number)
+
+abbrev pub timer_after : Draft → ℕ → ℕ → Result Draft ScriptReason
+timer_after d number to =
+    once_in_slot d number (λ (slot : Slot). slot.to) (λ (slot : Slot). record slot { to = Some to }) (slot_at d number)
 
 abbrev pub draw_in_slot : Draft → ℕ → ℕ → Option Slot → Result Draft ScriptReason
 draw_in_slot d number draw (Some slot) =
@@ -94,17 +107,20 @@ draw_in_slot d number draw None = Err UnknownNode
 abbrev pub draw_after : Draft → ℕ → ℕ → Result Draft ScriptReason
 draw_after d number draw = draw_in_slot d number draw (slot_at d number)
 
--- with one more act, the offer of that frame
-abbrev pub with_offer : Draft → ℕ → ℕ → List ℕ → Draft
-with_offer d tick number frame =
-    record d { acts = d.acts ++ offer_act (1 + length d.acts, (tick, number, frame)) ∷ []; latest = tick }
+-- with one more act
+abbrev pub with_act : Draft → Act → Draft
+with_act d act = record d { acts = d.acts ++ act ∷ []; latest = act.tick }
+
+-- a timed line that does this
+abbrev pub timed_after : Draft → ℕ → Deed → Result Draft ScriptReason
+timed_after d tick deed =
+    if nat_lt tick d.latest then Err Order
+    else if nat_le most_acts (length d.acts) then Err TooMany
+    else Ok (with_act d (act_at tick deed))
 
 abbrev pub offer_after : Draft → ℕ → ℕ → List ℕ → Result Draft ScriptReason
 offer_after d tick number frame =
-    if not (is_some (slot_at d number)) then Err UnknownNode
-    else if nat_lt tick d.latest then Err Order
-    else if nat_le most_acts (length d.acts) then Err TooMany
-    else Ok (with_offer d tick number frame)
+    if is_some (slot_at d number) then timed_after d tick (OfferDeed (1 + offers_in d.acts) number frame) else Err UnknownNode
 
 abbrev pub end_after : Draft → ℕ → Result Draft ScriptReason
 end_after d last =
@@ -119,8 +135,10 @@ line_after d (Set w n) = set_after d w n
 line_after d (Seed n) = seed_after d n
 line_after d (Node number id place) = node_after d number id place
 line_after d (Late number start) = late_after d number start
+line_after d (ToNode number to) = timer_after d number to
 line_after d (Draw number draw) = draw_after d number draw
 line_after d (Offer tick number frame) = offer_after d tick number frame
+line_after d (Noise tick until) = timed_after d tick (NoiseDeed until)
 line_after d (End last) = end_after d last
 
 -- a line that isn't skipped, where `end` stood or not
@@ -148,9 +166,9 @@ fault_at number (Memory error) = NoMemory error
 
 -- ---- the script that the lines give
 
--- the node of a slot: a script's `to` is its timer, and without a `late` line it starts at tick 0
+-- the node of a slot: without a `tonode` line the script's `to` is its timer, and without a `late` line it starts at tick 0
 abbrev pub node_of : ℕ → ℕ → Slot → NodeLine
-node_of to number slot = record { no = number; id = slot.id; place = slot.place; to = to; start = unwrap_or slot.start 0; draws = draw_list slot.draws }
+node_of to number slot = record { no = number; id = slot.id; place = slot.place; to = unwrap_or slot.to to; start = unwrap_or slot.start 0; draws = draw_list slot.draws }
 
 -- the nodes in ascending number, where the first of these slots is that of that number
 abbrev pub nodes_from : ℕ → ℕ → List (Option Slot) → List NodeLine

@@ -1,5 +1,5 @@
 -- What one line of a script says, by itself: its word, and its numbers in their ranges.
-use Rattle.std.specs.Prelude.{ℕ, ◌==◌, ◌&&◌, Bool, false, List, [], ◌∷◌, nat_le, codes, Option, Some, None, Result, Ok, Err, if◌then◌else◌}
+use Rattle.std.specs.Prelude.{ℕ, ◌==◌, ◌&&◌, Bool, false, List, [], ◌∷◌, nat_le, nat_lt, codes, Option, Some, None, Result, Ok, Err, if◌then◌else◌}
 use Rattle.std.specs.Str.{bytes_eq}
 use Rattle.t1s_base.specs.Limits.{last_node, most_ticks}
 use Rattle.t1s_base.specs.Numbers.{number_of}
@@ -12,9 +12,9 @@ use Rattle.t1s_script.specs.declared.refusals.ScriptReason.TheVariants.{UnknownW
 use Rattle.t1s_script.specs.declared.words.Range.{Range}
 use Rattle.t1s_script.specs.declared.words.Setting.TheVariants.{Count, To, Rise, Fall, Burst, Room}
 use Rattle.t1s_script.specs.declared.words.Word.{Word}
-use Rattle.t1s_script.specs.declared.words.Word.TheVariants.{Set as SetWord, Seed as SeedWord, Node as NodeWord, Late as LateWord, Draw as DrawWord, Offer as OfferWord, Fill as FillWord, End as EndWord}
+use Rattle.t1s_script.specs.declared.words.Word.TheVariants.{Set as SetWord, Seed as SeedWord, Node as NodeWord, Late as LateWord, ToNode as ToNodeWord, Draw as DrawWord, Offer as OfferWord, Fill as FillWord, Noise as NoiseWord, End as EndWord}
 use Rattle.t1s_script.specs.declared.words.ScriptLine.{ScriptLine}
-use Rattle.t1s_script.specs.declared.words.ScriptLine.TheVariants.{Skipped, Set, Seed, Node, Late, Draw, Offer, End}
+use Rattle.t1s_script.specs.declared.words.ScriptLine.TheVariants.{Skipped, Set, Seed, Node, Late, ToNode, Draw, Offer, Noise, End}
 
 -- what a line says, or the first reason of the table for which it is refused by itself
 abbrev pub ParsedLine : Type 0
@@ -32,9 +32,11 @@ word_of field =
     else if bytes_eq field (codes "seed") then Some SeedWord
     else if bytes_eq field (codes "node") then Some NodeWord
     else if bytes_eq field (codes "late") then Some LateWord
+    else if bytes_eq field (codes "tonode") then Some ToNodeWord
     else if bytes_eq field (codes "draw") then Some DrawWord
     else if bytes_eq field (codes "offer") then Some OfferWord
     else if bytes_eq field (codes "fill") then Some FillWord
+    else if bytes_eq field (codes "noise") then Some NoiseWord
     else if bytes_eq field (codes "end") then Some EndWord
     else None
 
@@ -104,15 +106,25 @@ fill_in (tick ∷ number ∷ count ∷ octet ∷ []) =
     fills (three_within (up_to most_ticks) (up_to last_node) (up_to 9999999999) (number_of tick) (number_of number) (number_of count)) octet
 fill_in _ = Err Form
 
+-- the tick at which a noise begins and the tick at which it has ended, which is above it
+abbrev pub lasts : Result (ℕ × ℕ) ScriptReason → ParsedLine
+lasts (Ok ticks) = if nat_lt ticks.0 ticks.1 then Ok (Noise ticks.0 ticks.1) else Err OutOfRange
+lasts (Err reason) = Err reason
+
+abbrev pub noise_in : List (List ℕ) → ParsedLine
+noise_in fields = lasts (two_numbers (up_to most_ticks) (up_to most_ticks) fields)
+
 -- what the fields after the word say, a row for each word
 abbrev pub line_by_word : Option Word → List (List ℕ) → ParsedLine
 line_by_word (Some (SetWord w)) fields = says (λ n. Set w n) (one_number (setting_range w) fields)
 line_by_word (Some SeedWord) fields = says (λ n. Seed n) (one_number (up_to 4294967295) fields)
 line_by_word (Some NodeWord) fields = says (λ n. Node n.0 n.1 n.2) (three_numbers (up_to last_node) (up_to 255) (up_to 255) fields)
 line_by_word (Some LateWord) fields = says (λ n. Late n.0 n.1) (two_numbers (up_to last_node) (up_to most_ticks) fields)
+line_by_word (Some ToNodeWord) fields = says (λ n. ToNode n.0 n.1) (two_numbers (up_to last_node) (setting_range To) fields)
 line_by_word (Some DrawWord) fields = says (λ n. Draw n.0 n.1) (two_numbers (up_to last_node) (up_to last_draw) fields)
 line_by_word (Some OfferWord) fields = offer_in fields
 line_by_word (Some FillWord) fields = fill_in fields
+line_by_word (Some NoiseWord) fields = noise_in fields
 line_by_word (Some EndWord) fields = says (λ n. End n) (one_number (record { least = 1; greatest = most_ticks }) fields)
 line_by_word None fields = Err UnknownWord
 

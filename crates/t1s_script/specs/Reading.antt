@@ -6,7 +6,7 @@ use Rattle.std.specs.Str.{bytes_eq}
 use Rattle.t1s_base.specs.Limits.{most_nodes}
 use Rattle.t1s_script.specs.Lines.{lines_of}
 use Rattle.t1s_script.specs.ParsedLine.{ParsedLine, parsed_line}
-use Rattle.t1s_script.specs.Values.{seed_from, node_for, start_for, draw_for, offer_from, end_from, first_given, setting_of}
+use Rattle.t1s_script.specs.Values.{seed_from, node_for, start_for, timer_for, draw_for, offer_from, end_from, first_given, setting_of}
 use Rattle.t1s_script.specs.Rules.{reason_of}
 use Rattle.t1s_script.specs.Script.{IsScript}
 use Rattle.t1s_script.specs.declared.refusals.ScriptReason.{ScriptReason}
@@ -15,10 +15,12 @@ use Rattle.t1s_script.specs.declared.refusals.ScriptRefusal.{ScriptRefusal}
 use Rattle.t1s_script.specs.declared.refusals.ScriptFault.{ScriptFault}
 use Rattle.t1s_script.specs.declared.refusals.ScriptFault.TheVariants.{Refused, Memory}
 use Rattle.t1s_script.specs.declared.script.Act.{Act}
-use Rattle.t1s_script.specs.declared.script.Deed.TheVariants.{Offer}
+use Rattle.t1s_script.specs.declared.script.Deed.{Deed}
+use Rattle.t1s_script.specs.declared.script.Deed.TheVariants.{Offer, Noise}
 use Rattle.t1s_script.specs.declared.script.NodeLine.{NodeLine}
 use Rattle.t1s_script.specs.declared.script.Script.{Script}
 use Rattle.t1s_script.specs.declared.words.Setting.TheVariants.{Count, To, Rise, Fall, Burst, Room}
+use Rattle.t1s_script.specs.declared.words.ScriptLine.TheVariants.{Offer as OfferLine, Noise as NoiseLine}
 
 -- ---- the script of lines that break no rule
 
@@ -27,14 +29,14 @@ abbrev pub draw_list : List ℕ → Option (List ℕ)
 draw_list [] = None
 draw_list (draw ∷ draws) = Some (draw ∷ draws)
 
--- the node of that number, as its `node` line names it: its timer is that of the script, and without a `late`
--- line it starts at tick 0
+-- the node of that number, as its `node` line names it: without a `tonode` line its timer is that of the script,
+-- and without a `late` line it starts at tick 0
 abbrev pub node_of_line : List ParsedLine → ℕ → ℕ × ℕ → NodeLine
 node_of_line lines number line = record {
   no = number;
   id = line.0;
   place = line.1;
-  to = setting_of To lines;
+  to = first_given (timer_for number) lines (setting_of To lines);
   start = first_given (start_for number) lines 0;
   draws = draw_list (filter_map (draw_for number) lines);
 }
@@ -47,13 +49,22 @@ nodes_of_number lines number = map (node_of_line lines number) (filter_map (node
 abbrev pub nodes_of : List ParsedLine → List NodeLine
 nodes_of lines = flat_map (nodes_of_number lines) (range_with_len 0 most_nodes)
 
--- the act of an offer with that number
-abbrev pub offer_act : ℕ × (ℕ × ℕ × List ℕ) → Act
-offer_act offer = record { tick = offer.1.0; deed = Offer offer.0 offer.1.1 offer.1.2 }
+abbrev pub act_at : ℕ → Deed → Act
+act_at tick deed = record { tick = tick; deed = deed }
 
--- the offers of all lines, numbered from 1 in line order
+-- the act of a timed line that stands below so many offers: these are numbered from 1 in line order
+abbrev pub act_below : ℕ → ParsedLine → Option Act
+act_below offers (Ok (OfferLine tick number frame)) = Some (act_at tick (Offer (1 + offers) number frame))
+act_below offers (Ok (NoiseLine tick until)) = Some (act_at tick (Noise until))
+act_below offers _ = None
+
+-- the act of one of these lines; it comes with the number of lines between it and the first line
+abbrev pub act_of : List ParsedLine → ℕ × ParsedLine → Option Act
+act_of lines line = act_below (length (filter_map offer_from (take line.0 lines))) line.1
+
+-- the acts of all lines, in line order
 abbrev pub acts_of : List ParsedLine → List Act
-acts_of lines = map offer_act (enumerate_from 1 (filter_map offer_from lines))
+acts_of lines = filter_map (act_of lines) (enumerate_from 0 lines)
 
 -- the script that these lines give, with that `end`
 abbrev pub script_from : List ParsedLine → ℕ → Script

@@ -1,66 +1,106 @@
 -- The rules that a line after the first breaks in the light of all lines before it, in the order of the table of
 -- reasons. A line is refused for the first reason of the table.
-use Rattle.std.specs.Prelude.{Bool, false, not, List, length, filter_map, nat_le, nat_lt, Option, Some, None, Ok, Err, if◌then◌else◌}
+use Rattle.std.specs.Prelude.{ℕ, Bool, false, not, List, length, filter_map, nat_le, nat_lt, is_some, Option, Some, None, Ok, Err, if◌then◌else◌}
 use Rattle.std.specs.List.{list_any}
 use Rattle.t1s_script.specs.ParsedLine.{ParsedLine}
 use Rattle.t1s_script.specs.Limits.{most_acts, most_draws}
-use Rattle.t1s_script.specs.Values.{number_for, seed_from, node_for, start_for, draw_for, tick_from, latest_tick, end_from, is_node, some_gives}
+use Rattle.t1s_script.specs.Values.{number_for, seed_from, node_for, start_for, timer_for, draw_for, tick_from, latest_tick, end_from, is_node, some_gives}
 use Rattle.t1s_script.specs.declared.refusals.ScriptReason.{ScriptReason}
 use Rattle.t1s_script.specs.declared.refusals.ScriptReason.TheVariants.{AfterEnd, Twice, UnknownNode, Order, TooMany, NoNode}
 use Rattle.t1s_script.specs.declared.words.ScriptLine.{ScriptLine}
-use Rattle.t1s_script.specs.declared.words.ScriptLine.TheVariants.{Skipped, Set, Seed, Node, Late, Draw, Offer, End}
+use Rattle.t1s_script.specs.declared.words.ScriptLine.TheVariants.{Skipped, Set, Seed, Node, Late, ToNode, Draw, Offer, Noise, End}
+
+-- ---- the table: how often a line may stand, and what stands above it
+
+-- what has to stand above: the `node` line of a number, or any `node` line
+pub data Above : Type 0 where
+  Nothing : Above
+  NodeOf : ℕ → Above
+  SomeNode : Above
+
+-- where among the timed lines: above it none of a later tick, or none of that tick or a later one
+pub data Among : Type 0 where
+  Anywhere : Among
+  NotBelow : ℕ → Among
+  Beyond : ℕ → Among
+
+-- no line above passes the test `once`; of `most`, fewer lines above give such a number than it says
+pub record Row : Type 0 where
+  pub once : Option (ParsedLine → Bool)
+  pub most : Option (ℕ × (ParsedLine → Option ℕ))
+  pub above : Above
+  pub among : Among
+
+abbrev row : Option (ParsedLine → Bool) → Option (ℕ × (ParsedLine → Option ℕ)) → Above → Among → Row
+row once most above among = record { once = once; most = most; above = above; among = among }
+
+-- no line above gives such a value
+abbrev once : {X : Type 0} → (ParsedLine → Option X) → Option (ParsedLine → Bool)
+once value = Some (λ line. is_some (value line))
+
+abbrev at_most : ℕ → (ParsedLine → Option ℕ) → Option (ℕ × (ParsedLine → Option ℕ))
+at_most most value = Some (most, value)
+
+-- a row for each kind of line; that nothing stands below `end` is a rule of its own
+abbrev pub row_of : ScriptLine → Row
+row_of Skipped = row None None Nothing Anywhere
+row_of (Set w n) = row (once (number_for w)) None Nothing Anywhere
+row_of (Seed n) = row (once seed_from) None Nothing Anywhere
+row_of (Node number id place) = row (once (node_for number)) None Nothing Anywhere
+row_of (Late number start) = row (once (start_for number)) None (NodeOf number) Anywhere
+row_of (ToNode number to) = row (once (timer_for number)) None (NodeOf number) Anywhere
+row_of (Draw number draw) = row None (at_most most_draws (draw_for number)) (NodeOf number) Anywhere
+row_of (Offer tick number frame) = row None (at_most most_acts tick_from) (NodeOf number) (NotBelow tick)
+row_of (Noise tick until) = row None (at_most most_acts tick_from) Nothing (NotBelow tick)
+row_of (End last) = row None None SomeNode (Beyond last)
+
+-- ---- the rules, by the row
 
 -- `AfterEnd`: a line that isn't skipped stands after `end`
 abbrev pub stands_after_end : List ParsedLine → ParsedLine → Bool
 stands_after_end earlier (Ok Skipped) = false
 stands_after_end earlier line = some_gives end_from earlier
 
--- `Twice`: a line that may stand once stands again; a second `end` is `AfterEnd`
-abbrev pub stands_again : List ParsedLine → ScriptLine → Bool
-stands_again earlier (Set w n) = some_gives (number_for w) earlier
-stands_again earlier (Seed n) = some_gives seed_from earlier
-stands_again earlier (Node number id place) = some_gives (node_for number) earlier
-stands_again earlier (Late number start) = some_gives (start_for number) earlier
-stands_again earlier _ = false
+-- `Twice`: a line that may stand once stands again
+abbrev pub stands_again : List ParsedLine → Option (ParsedLine → Bool) → Bool
+stands_again earlier (Some test) = list_any test earlier
+stands_again earlier None = false
 
 -- `UnknownNode`: a line names a node that has no earlier `node` line
-abbrev pub names_unknown_node : List ParsedLine → ScriptLine → Bool
-names_unknown_node earlier (Late number start) = not (some_gives (node_for number) earlier)
-names_unknown_node earlier (Draw number draw) = not (some_gives (node_for number) earlier)
-names_unknown_node earlier (Offer tick number frame) = not (some_gives (node_for number) earlier)
+abbrev pub names_unknown_node : List ParsedLine → Above → Bool
+names_unknown_node earlier (NodeOf number) = not (some_gives (node_for number) earlier)
 names_unknown_node earlier _ = false
 
 -- `Order`: a timed tick is below that of an earlier timed line, or `end` isn't above the last of them
-abbrev pub is_out_of_order : List ParsedLine → ScriptLine → Bool
-is_out_of_order earlier (Offer tick number frame) = nat_lt tick (latest_tick earlier)
-is_out_of_order earlier (End last) = nat_le last (latest_tick earlier)
+abbrev pub is_out_of_order : List ParsedLine → Among → Bool
+is_out_of_order earlier (NotBelow tick) = nat_lt tick (latest_tick earlier)
+is_out_of_order earlier (Beyond last) = nat_le last (latest_tick earlier)
 is_out_of_order earlier _ = false
 
--- `TooMany`: as many timed lines stood before as a script may have, or as many draws of the node
-abbrev pub is_one_too_many : List ParsedLine → ScriptLine → Bool
-is_one_too_many earlier (Draw number draw) = nat_le most_draws (length (filter_map (draw_for number) earlier))
-is_one_too_many earlier (Offer tick number frame) = nat_le most_acts (length (filter_map tick_from earlier))
-is_one_too_many earlier _ = false
+-- `TooMany`: as many such lines stood before as there may be
+abbrev pub is_one_too_many : List ParsedLine → Option (ℕ × (ParsedLine → Option ℕ)) → Bool
+is_one_too_many earlier (Some most) = nat_le most.0 (length (filter_map most.1 earlier))
+is_one_too_many earlier None = false
 
--- `NoNode`: `end` comes and no `node` line stood before
-abbrev pub ends_without_node : List ParsedLine → ScriptLine → Bool
-ends_without_node earlier (End last) = not (list_any is_node earlier)
-ends_without_node earlier _ = false
+-- `NoNode`: no `node` line stood before
+abbrev pub lacks_a_node : List ParsedLine → Above → Bool
+lacks_a_node earlier SomeNode = not (list_any is_node earlier)
+lacks_a_node earlier _ = false
 
 -- the first reason that the lines before a line give for it
-abbrev pub reason_among : List ParsedLine → ScriptLine → Option ScriptReason
-reason_among earlier line =
-    if stands_again earlier line then Some Twice
-    else if names_unknown_node earlier line then Some UnknownNode
-    else if is_out_of_order earlier line then Some Order
-    else if is_one_too_many earlier line then Some TooMany
-    else if ends_without_node earlier line then Some NoNode
+abbrev pub reason_by : List ParsedLine → Row → Option ScriptReason
+reason_by earlier r =
+    if stands_again earlier r.once then Some Twice
+    else if names_unknown_node earlier r.above then Some UnknownNode
+    else if is_out_of_order earlier r.among then Some Order
+    else if is_one_too_many earlier r.most then Some TooMany
+    else if lacks_a_node earlier r.above then Some NoNode
     else None
 
 -- the first reason where `end` didn't stand before: the line's own reason comes first
 abbrev pub reason_before_end : List ParsedLine → ParsedLine → Option ScriptReason
 reason_before_end earlier (Err reason) = Some reason
-reason_before_end earlier (Ok line) = reason_among earlier line
+reason_before_end earlier (Ok line) = reason_by earlier (row_of line)
 
 -- the first reason of all, if the line breaks any rule
 abbrev pub reason_of : List ParsedLine → ParsedLine → Option ScriptReason

@@ -46,6 +46,10 @@ number_in (Noise until) = None
 abbrev pub offer_number : Act → Option ℕ
 offer_number a = number_in a.deed
 
+-- how many of these acts are offers
+abbrev pub offers_in : List Act → ℕ
+offers_in acts = length (filter_map offer_number acts)
+
 -- all numbers are in their ranges; one to `most_nodes` nodes stand in strictly ascending number; at most `most_acts`
 -- acts stand in the order of their ticks, and the numbers of the offers among them ascend strictly
 pub record IsScript (s : Script) : Type 0 where

@@ -5,7 +5,7 @@ use Rattle.t1s_script.specs.Settings.{default_of}
 use Rattle.t1s_script.specs.ParsedLine.{ParsedLine}
 use Rattle.t1s_script.specs.declared.words.Setting.{Setting}
 use Rattle.t1s_script.specs.declared.words.Setting.TheVariants.{Count, To, Rise, Fall, Burst, Room}
-use Rattle.t1s_script.specs.declared.words.ScriptLine.TheVariants.{Set, Seed, Node, Late, Draw, Offer, End}
+use Rattle.t1s_script.specs.declared.words.ScriptLine.TheVariants.{Set, Seed, Node, Late, ToNode, Draw, Offer, Noise, End}
 
 -- ---- one line
 
@@ -38,6 +38,11 @@ abbrev pub start_for : ℕ → ParsedLine → Option ℕ
 start_for number (Ok (Late other start)) = if other == number then Some start else None
 start_for number _ = None
 
+-- the timer of a `tonode` line of that number
+abbrev pub timer_for : ℕ → ParsedLine → Option ℕ
+timer_for number (Ok (ToNode other to)) = if other == number then Some to else None
+timer_for number _ = None
+
 -- the draw of a `draw` line of that number
 abbrev pub draw_for : ℕ → ParsedLine → Option ℕ
 draw_for number (Ok (Draw other draw)) = if other == number then Some draw else None
@@ -51,6 +56,7 @@ offer_from _ = None
 -- the tick of a timed line
 abbrev pub tick_from : ParsedLine → Option ℕ
 tick_from (Ok (Offer tick number frame)) = Some tick
+tick_from (Ok (Noise tick until)) = Some tick
 tick_from _ = None
 
 -- the number of ticks of an `end` line

@@ -3,11 +3,12 @@ ghost use Rattle.std.specs.Prelude.{◌≡◌, ◌≤◌, Ok, Err, IfOk, MatchRe
 ghost use Rattle.std.specs.List.{list_any};
 ghost use Rattle.std.specs.Result.{ForOk};
 ghost use Rattle.t1s_base.specs.Limits.{last_node};
-ghost use Rattle.t1s_script.specs.Draft.{IsTaken, draft_after, draft_start, draw_after, end_after, given, late_after, line_after, no_settings, node_after, node_of, nodes_from, offer_after, script_with, seed_after, set_after, slot_at, value_in, with_given, with_slot};
+ghost use Rattle.t1s_script.specs.Draft.{IsTaken, draft_after, draft_start, draw_after, end_after, given, late_after, line_after, no_settings, node_after, node_of, nodes_from, offer_after, script_with, seed_after, set_after, slot_at, timed_after, timer_after, value_in, with_given, with_slot};
 ghost use Rattle.t1s_script.specs.Ranges.{HasSlot};
 
+use crate::kept_acts::KeptActs;
 use crate::refusals::{LineFault, ScriptReason};
-use crate::script::{Act, ActList, Deed, DrawList, NodeLine, NodeList, Script};
+use crate::script::{Act, Deed, DrawList, NodeLine, NodeList, Script};
 use crate::words::{ScriptLine, Setting};
 use std::alloc::{AllocError, Global};
 use std::array;
@@ -93,6 +94,8 @@ impl Settings {
 pub struct Slot {
     pub id: u8,
     pub place: u8,
+    /// The timer of its `tonode` line.
+    pub to: Option<u8>,
     /// The tick of its `late` line.
     pub start: Option<u64>,
     /// The draws of its `draw` lines.
@@ -100,7 +103,7 @@ pub struct Slot {
 }
 
 impl Slot {
-    /// The node of this slot, with that number and that timer.
+    /// The node of this slot, with that number. Without a timer of its own it has that one.
     fn node(self, no: u8, to: u8) -> NodeLine
         ensures { result ≡ node_of to no self }
     {
@@ -109,7 +112,7 @@ impl Slot {
             no,
             id: self.id,
             place: self.place,
-            to,
+            to: self.to.unwrap_or(to),
             start: self.start.unwrap_or(0),
             draws: is_listed.then_some(self.draws),
         }
@@ -124,7 +127,7 @@ pub struct Draft {
     /// By the number of the node.
     pub slots: [Option<Slot>; SLOTS],
     /// The acts of the timed lines.
-    pub acts: ActList,
+    pub acts: KeptActs,
     /// The tick of the last timed line.
     pub latest: u64,
     /// The number of ticks of the run, once `end` stood.
@@ -140,7 +143,7 @@ impl Draft {
             settings: Settings::none(),
             seed: None,
             slots: array::from_fn(|_| None),
-            acts: ActList::none(alloc),
+            acts: KeptActs::none(alloc),
             latest: 0,
             end: None,
         }
@@ -194,6 +197,7 @@ impl Draft {
         self.slots[usize::from(no)] = Some(Slot {
             id,
             place,
+            to: None,
             start: None,
             draws: DrawList::none(alloc),
         });
@@ -215,6 +219,21 @@ impl Draft {
         }
     }
 
+    /// A `tonode` line.
+    fn take_timer(&mut self, no: u8, to: u8) -> Result<(), ScriptReason>
+        requires { no ≤ last_node }
+        ensures { MatchResult result (λ _. timer_after self.old no to ≡ Ok self.new) (λ reason. timer_after self.old no to ≡ Err reason) }
+    {
+        match &mut self.slots[usize::from(no)] {
+            None => Err(ScriptReason::UnknownNode),
+            Some(slot) if slot.to.is_some() => Err(ScriptReason::Twice),
+            Some(slot) => {
+                slot.to = Some(to);
+                Ok(())
+            }
+        }
+    }
+
     /// A `draw` line.
     fn take_draw(&mut self, no: u8, draw: u16) -> Result<(), LineFault>
         requires { no ≤ last_node }
@@ -229,6 +248,21 @@ impl Draft {
         }
     }
 
+    /// A timed line that does this.
+    fn take_timed(&mut self, tick: u64, deed: Deed) -> Result<(), LineFault>
+        ensures { IsTaken (timed_after self.old tick deed) result self.new }
+    {
+        if tick < self.latest {
+            return Err(LineFault::Reason(ScriptReason::Order));
+        }
+        if self.acts.len() >= MOST_ACTS {
+            return Err(LineFault::Reason(ScriptReason::TooMany));
+        }
+        self.acts.push(Act { tick, deed })?;
+        self.latest = tick;
+        Ok(())
+    }
+
     /// An `offer` or a `fill` line.
     fn take_offer(&mut self, tick: u64, no: u8, frame: Frame) -> Result<(), LineFault>
         requires { no ≤ last_node }
@@ -237,21 +271,12 @@ impl Draft {
         if !self.knows(no) {
             return Err(LineFault::Reason(ScriptReason::UnknownNode));
         }
-        if tick < self.latest {
-            return Err(LineFault::Reason(ScriptReason::Order));
-        }
-        let stood = self.acts.as_slice().len();
-        if stood >= MOST_ACTS {
-            return Err(LineFault::Reason(ScriptReason::TooMany));
-        }
         let deed = Deed::Offer {
-            number: 1 + stood as u16,
+            number: 1 + self.acts.offers(),
             node: no,
             frame,
         };
-        self.acts.push(Act { tick, deed })?;
-        self.latest = tick;
-        Ok(())
+        self.take_timed(tick, deed)
     }
 
     /// The `end` line.
@@ -279,8 +304,10 @@ impl Draft {
             ScriptLine::Seed(seed) => Ok(self.take_seed(seed)?),
             ScriptLine::Node { no, id, place } => Ok(self.take_node(alloc, no, id, place)?),
             ScriptLine::Late { no, start } => Ok(self.take_late(no, start)?),
+            ScriptLine::ToNode { no, to } => Ok(self.take_timer(no, to)?),
             ScriptLine::Draw { no, draw } => self.take_draw(no, draw),
             ScriptLine::Offer { tick, no, frame } => self.take_offer(tick, no, frame),
+            ScriptLine::Noise { tick, until } => self.take_timed(tick, Deed::Noise { until }),
             ScriptLine::End(end) => Ok(self.take_end(end)?),
         }
     }
@@ -317,7 +344,7 @@ impl Draft {
             room: self.settings.value(Setting::Room),
             seed: self.seed.unwrap_or(DEFAULT_SEED),
             nodes: NodeList::of(nodes_in(alloc, to, self.slots)?),
-            acts: self.acts,
+            acts: self.acts.list(),
             end,
         })
     }

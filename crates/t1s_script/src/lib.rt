@@ -11,6 +11,7 @@
 mod draft;
 mod fitness;
 mod frame_texts;
+mod kept_acts;
 pub mod laws;
 mod parsing;
 mod reading;

@@ -1,13 +1,13 @@
 // How one line is parsed, by itself.
 ghost use Rattle.std.specs.Prelude.{◌≡◌, ◌≤◌, IfOk};
-ghost use Rattle.t1s_script.specs.ParsedLine.{fill_in, is_skipped, line_by_word, line_in, offer_in, one_number, parsed_line, three_numbers, three_within, two_numbers, two_within};
+ghost use Rattle.t1s_script.specs.ParsedLine.{fill_in, is_skipped, line_by_word, line_in, noise_in, offer_in, one_number, parsed_line, three_numbers, three_within, two_numbers, two_within};
 ghost use Rattle.t1s_script.specs.Lines.{fields_of};
 ghost use Rattle.t1s_script.specs.Ranges.{HasSlot};
 
 use crate::frame_texts::{fill_frame, hex_frame};
 use crate::refusals::ScriptReason;
 use crate::text::Fields;
-use crate::words::{Range, ScriptLine, Word, word_in};
+use crate::words::{Range, ScriptLine, Setting, Word, word_in};
 use t1s_base::{LAST_NODE, MOST_TICKS, read_number};
 
 const COMMENT: u8 = b'#';
@@ -184,6 +184,19 @@ fn read_fill(mut fields: Fields<'_>) -> Result<ScriptLine, ScriptReason>
     })
 }
 
+/// What the fields after `noise` say: it ends above the tick at which it begins.
+fn read_noise(fields: Fields<'_>) -> Result<ScriptLine, ScriptReason>
+    ensures value { result ≡ noise_in fields.entry }
+    ensures slot { IfOk result HasSlot }
+{
+    let (tick, until) = two_numbers((TICKS, TICKS), fields)?;
+    if tick < until {
+        Ok(ScriptLine::Noise { tick, until })
+    } else {
+        Err(ScriptReason::OutOfRange)
+    }
+}
+
 /// What the fields after the word say, a row for each word.
 fn read_fields(word: Option<Word>, fields: Fields<'_>) -> Result<ScriptLine, ScriptReason>
     ensures value { result ≡ line_by_word word fields.entry }
@@ -207,6 +220,13 @@ fn read_fields(word: Option<Word>, fields: Fields<'_>) -> Result<ScriptLine, Scr
                 start,
             }
         }
+        Word::ToNode => {
+            let (no, to) = two_numbers((NODES, Setting::To.range()), fields)?;
+            ScriptLine::ToNode {
+                no: no as u8,
+                to: to as u8,
+            }
+        }
         Word::Draw => {
             let (no, draw) = two_numbers((NODES, DRAWS), fields)?;
             ScriptLine::Draw {
@@ -216,6 +236,7 @@ fn read_fields(word: Option<Word>, fields: Fields<'_>) -> Result<ScriptLine, Scr
         }
         Word::Offer => read_offer(fields)?,
         Word::Fill => read_fill(fields)?,
+        Word::Noise => read_noise(fields)?,
         Word::End => ScriptLine::End(one_number(ENDS, fields)?),
     })
 }

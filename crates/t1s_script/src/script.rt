@@ -1,5 +1,5 @@
 // What a script holds.
-ghost use Rattle.std.specs.Prelude.{◌≡◌, ◌++◌, ◌∷◌, [], IfErr, OnOk, length};
+ghost use Rattle.std.specs.Prelude.{◌≡◌, ◌++◌, ◌∷◌, [], MatchResult, OnOk};
 
 use std::alloc::{AllocError, Global};
 use std::marker::Model;
@@ -58,7 +58,7 @@ pub struct NodeLine {
     pub id: u8,
     /// Its place on the cable, in whole bit times from one end.
     pub place: u8,
-    /// Its opportunity timer, 16 to 255 ticks.
+    /// Its opportunity timer, 16 to 255 ticks: that of its `tonode` line, else that of the script.
     pub to: u8,
     /// The tick at which it starts, at most [`t1s_base::MOST_TICKS`].
     pub start: u64,
@@ -163,9 +163,9 @@ impl ActList {
         self.items.as_slice()
     }
 
-    /// One more act.
+    /// One more act. Out of memory leaves the list as it was.
     pub(crate) fn push(&mut self, act: Act) -> Result<(), AllocError>
-        ensures { OnOk result (self.new ≡ self.old ++ act ∷ []) }
+        ensures { MatchResult result (λ _. self.new ≡ self.old ++ act ∷ []) (λ _. self.new ≡ self.old) }
     {
         Ok(self.items.push(act)?)
     }

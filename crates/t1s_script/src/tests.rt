@@ -1,234 +1,215 @@
 use crate::{
-    ActList, NodeLine, NodeList, Script, ScriptFault, ScriptReason, ScriptRefusal, Unfit, bound,
-    fit, read_script, span,
+    ActList, NodeLine, NodeList, Script, ScriptFault, Unfit, bound, fit, read_script, span,
 };
 use std::alloc::{AllocError, Global};
 use std::process::Abort;
 use std::test::Fail;
 
-/// Why the text is refused, if it is.
-pub fn refusal_of(alloc: Global, text: &[u8]) -> Option<ScriptRefusal> {
-    match read_script(alloc, text) {
-        Err(ScriptFault::Refused(refusal)) => Some(refusal),
-        _ => None,
+/// The script that a text is short for: `/` stands for a line feed, and `B3` for the first line and three nodes.
+fn script_text(alloc: Global, text: &str) -> Result<String, AllocError> {
+    let three = text.replace(
+        alloc,
+        "B3",
+        "t1s 1/count 3/node 0 0 0/node 1 1 2/node 2 2 5",
+    )?;
+    three.as_str().replace(alloc, "/", "\n")
+}
+
+/// The script that a text is short for, read.
+pub fn read(alloc: Global, text: &str) -> Result<Script, ScriptFault> {
+    let script = script_text(alloc, text).map_err(ScriptFault::Memory)?;
+    read_script(alloc, script.as_bytes())
+}
+
+/// The line at which a script is refused, and the reason. Where it is read there is no text.
+fn refusal_of(alloc: Global, text: &str) -> Result<String, AllocError> {
+    match read(alloc, text) {
+        Ok(_) => Ok(String::new(alloc)),
+        Err(ScriptFault::Refused(refusal)) => {
+            format!(in alloc; "{} {:?}", refusal.line, refusal.reason)
+        }
+        Err(ScriptFault::Memory(error)) => Err(error),
     }
 }
 
-/// Sees that each text is refused at its line, for its reason.
-pub fn check_refused(rt: &impl Abort, alloc: Global, rows: &[(&str, u32, ScriptReason)]) {
+/// Sees that the script of each row is refused so, or is read.
+pub fn check_rows(rt: &impl Abort, alloc: Global, rows: &[(&str, &str)]) -> Result<(), AllocError> {
     for row in rows {
-        let (text, line, reason) = *row;
-        let refused = Some(ScriptRefusal { line, reason });
-        assert_eq!(rt; refusal_of(alloc, text.as_bytes()), refused, "{text}");
+        let (text, want) = *row;
+        let refusal = refusal_of(alloc, text)?;
+        assert_eq!(rt; refusal.as_str(), want, "{text}");
     }
-}
-
-/// The numbers of a node: its own, its ID, its place, its timer and its start.
-fn numbers_of(node: &NodeLine) -> (u8, u8, u8, u8, u64) {
-    (node.no, node.id, node.place, node.to, node.start)
-}
-
-#[test]
-fn what_no_line_gives_has_its_default(rt: HostRuntime) -> Result<(), Fail> {
-    let script = read_script(rt.alloc(), b"t1s 1\nnode 3 1 2\nend 2000000")?;
-    let numbers = (
-        script.count,
-        script.to,
-        script.rise,
-        script.fall,
-        script.burst,
-        script.room,
-    );
-    assert_eq!(rt; numbers, (8, 32, 4, 4, 0, 8));
-    assert_eq!(rt; (script.seed, script.end), (1, 2_000_000));
-    assert_eq!(rt; script.nodes.as_slice().len(), 1);
-    for node in script.nodes.as_slice() {
-        assert_eq!(rt; numbers_of(node), (3, 1, 2, 32, 0));
-        assert!(rt; node.draws.is_none());
-    }
-    assert!(rt; script.acts.as_slice().is_empty());
     Ok(())
 }
 
 #[test]
-fn settings_hold_for_lines_above_them(rt: HostRuntime) -> Result<(), Fail> {
-    let text = b"t1s 1\nnode 15 255 255\nlate 15 2000000\n# a note\nnode 0 0 0\nseed 4294967295\n\
-room 64\nburst 255\nfall 16\nrise 16\nto 255\ncount 254\nend 1\n# the end\n";
-    let script = read_script(rt.alloc(), text)?;
-    let numbers = (
-        script.count,
-        script.to,
-        script.rise,
-        script.fall,
-        script.burst,
-        script.room,
-    );
-    assert_eq!(rt; numbers, (254, 255, 16, 16, 255, 64));
-    assert_eq!(rt; (script.seed, script.end), (4_294_967_295, 1));
-    let nodes = script.nodes.as_slice();
-    assert_eq!(rt; nodes.len(), 2);
-    assert_eq!(rt; nodes.first().map(numbers_of), Some((0, 0, 0, 255, 0)));
-    assert_eq!(rt;
-        nodes.last().map(numbers_of),
-        Some((15, 255, 255, 255, 2_000_000))
-    );
-    Ok(())
+fn lines_are_refused_for_their_first_reason(rt: HostRuntime) -> Result<(), Fail> {
+    let rows = [
+        ("", "1 FirstLine"),
+        ("t1s 1 /end 9/", "1 FirstLine"),
+        ("t1s 1\r/end 9/", "1 FirstLine"),
+        ("#/t1s 1/node 0 0 0/end 9/", "1 FirstLine"),
+        ("t1s 1/node 0 0 0/end 9/end 9/", "4 AfterEnd"),
+        ("t1s 1/node 0 0 0/end 9/#//", "5 AfterEnd"),
+        ("t1s 1/node 0 0 0/end 9/nod", "4 AfterEnd"),
+        ("t1s 1/nod 0 0 0/", "2 UnknownWord"),
+        ("t1s 1//end 9/", "2 UnknownWord"),
+        ("t1s 1/ count 3/", "2 UnknownWord"),
+        ("t1s 1/count 3 /", "2 Form"),
+        ("t1s 1/node 0 0  0/", "2 Form"),
+        ("t1s 1/late 0/", "2 Form"),
+        ("t1s 1/to 032/", "2 Number"),
+        ("t1s 1/count 3\r/", "2 Number"),
+        ("t1s 1/node 16 x 0/", "2 Number"),
+        ("t1s 1/to 15/", "2 OutOfRange"),
+        ("t1s 1/#/to 40/to 256/", "4 OutOfRange"),
+        ("t1s 1/late 16 0/", "2 OutOfRange"),
+        ("t1s 1/seed 4294967296/", "2 OutOfRange"),
+        ("t1s 1/to 40/to 40/", "3 Twice"),
+        ("t1s 1/seed 1/room 8/seed 1/", "4 Twice"),
+        ("t1s 1/node 3 0 0/node 3 1 1/", "3 Twice"),
+        ("t1s 1/node 3 0 0/late 3 0/late 3 0/", "4 Twice"),
+        ("B3/late 9 5/", "6 UnknownNode"),
+        ("t1s 1/late 0 5/node 0 0 0/end 9/", "2 UnknownNode"),
+        ("t1s 1/end 10/", "2 NoNode"),
+        ("t1s 1", "2 NoEnd"),
+        ("t1s 1/to 40/", "3 NoEnd"),
+        ("t1s 1/node 0 0 0", "3 NoEnd"),
+        ("B3/", "6 NoEnd"),
+    ];
+    Ok(check_rows(&rt, rt.alloc(), &rows)?)
 }
 
 #[test]
-fn lines_are_refused_for_their_first_reason(rt: HostRuntime) {
-    let alloc = rt.alloc();
-    check_refused(
-        &rt,
-        alloc,
-        &[
-            ("", 1, ScriptReason::FirstLine),
-            ("t1s 1 \nend 9\n", 1, ScriptReason::FirstLine),
-            ("t1s 1\r\nend 9\n", 1, ScriptReason::FirstLine),
-            ("#\nt1s 1\nnode 0 0 0\nend 9\n", 1, ScriptReason::FirstLine),
-            (
-                "t1s 1\nnode 0 0 0\nend 9\nend 9\n",
-                4,
-                ScriptReason::AfterEnd,
-            ),
-            ("t1s 1\nnode 0 0 0\nend 9\n#\n\n", 5, ScriptReason::AfterEnd),
-            ("t1s 1\nnode 0 0 0\nend 9\nnod", 4, ScriptReason::AfterEnd),
-        ],
-    );
-    check_refused(
-        &rt,
-        alloc,
-        &[
-            ("t1s 1\nnod 0 0 0\n", 2, ScriptReason::UnknownWord),
-            ("t1s 1\n\nend 9\n", 2, ScriptReason::UnknownWord),
-            ("t1s 1\n count 3\n", 2, ScriptReason::UnknownWord),
-            ("t1s 1\nnoise 1 2\n", 2, ScriptReason::UnknownWord),
-            ("t1s 1\ncount 3 \n", 2, ScriptReason::Form),
-            ("t1s 1\nnode 0 0  0\n", 2, ScriptReason::Form),
-            ("t1s 1\nlate 0\n", 2, ScriptReason::Form),
-        ],
-    );
-}
-
-#[test]
-fn lines_are_refused_for_their_numbers(rt: HostRuntime) {
-    check_refused(
-        &rt,
-        rt.alloc(),
-        &[
-            ("t1s 1\nto 032\n", 2, ScriptReason::Number),
-            ("t1s 1\ncount 3\r\n", 2, ScriptReason::Number),
-            ("t1s 1\nnode 16 x 0\n", 2, ScriptReason::Number),
-            ("t1s 1\nto 15\n", 2, ScriptReason::OutOfRange),
-            ("t1s 1\n#\nto 40\nto 256\n", 4, ScriptReason::OutOfRange),
-            ("t1s 1\nlate 16 0\n", 2, ScriptReason::OutOfRange),
-            ("t1s 1\nseed 4294967296\n", 2, ScriptReason::OutOfRange),
-        ],
-    );
-}
-
-#[test]
-fn lines_are_refused_for_the_lines_before_them(rt: HostRuntime) {
-    check_refused(
-        &rt,
-        rt.alloc(),
-        &[
-            ("t1s 1\nto 40\nto 40\n", 3, ScriptReason::Twice),
-            ("t1s 1\nseed 1\nroom 8\nseed 1\n", 4, ScriptReason::Twice),
-            ("t1s 1\nnode 3 0 0\nnode 3 1 1\n", 3, ScriptReason::Twice),
-            (
-                "t1s 1\nnode 3 0 0\nlate 3 0\nlate 3 0\n",
-                4,
-                ScriptReason::Twice,
-            ),
-            (
-                "t1s 1\ncount 3\nnode 0 0 0\nnode 1 1 2\nnode 2 2 5\nlate 9 5\n",
-                6,
-                ScriptReason::UnknownNode,
-            ),
-            (
-                "t1s 1\nlate 0 5\nnode 0 0 0\nend 9\n",
-                2,
-                ScriptReason::UnknownNode,
-            ),
-        ],
-    );
-}
-
-#[test]
-fn scripts_without_a_node_or_an_end_are_refused(rt: HostRuntime) {
-    check_refused(
-        &rt,
-        rt.alloc(),
-        &[
-            ("t1s 1\nend 10\n", 2, ScriptReason::NoNode),
-            ("t1s 1", 2, ScriptReason::NoEnd),
-            ("t1s 1\nto 40\n", 3, ScriptReason::NoEnd),
-            ("t1s 1\nnode 0 0 0", 3, ScriptReason::NoEnd),
-            (
-                "t1s 1\ncount 3\nnode 0 0 0\nnode 1 1 2\nnode 2 2 5\n",
-                6,
-                ScriptReason::NoEnd,
-            ),
-        ],
-    );
+fn timers_and_noise_are_refused_for_their_first_reason(rt: HostRuntime) -> Result<(), Fail> {
+    let rows = [
+        ("B3/tonode 1/", "6 Form"),
+        ("B3/tonode 16 x/", "6 Number"),
+        ("B3/tonode 9 15/", "6 OutOfRange"),
+        ("B3/tonode 1 256/", "6 OutOfRange"),
+        ("B3/tonode 16 40/", "6 OutOfRange"),
+        ("B3/tonode 1 40/tonode 1 41/", "7 Twice"),
+        ("B3/tonode 9 40/", "6 UnknownNode"),
+        ("t1s 1/tonode 0 40/node 0 0 0/end 9/", "2 UnknownNode"),
+        ("B3/tonode 1 16/tonode 2 255/end 9/", ""),
+        ("B3/noise 9/", "6 Form"),
+        ("B3/noise 9 8 /", "6 Form"),
+        ("B3/noise 9 x/", "6 Number"),
+        ("B3/noise 9 9/", "6 OutOfRange"),
+        ("B3/noise 9 8/", "6 OutOfRange"),
+        ("B3/noise 5 2000001/", "6 OutOfRange"),
+        ("B3/fill 5 1 60 00/noise 4 3/", "7 OutOfRange"),
+        ("B3/fill 5 1 60 00/noise 4 9/", "7 Order"),
+        ("B3/noise 5 9/fill 4 1 60 00/", "7 Order"),
+        ("B3/noise 5 9/end 5/", "7 Order"),
+        ("t1s 1/noise 5 9/end 6/", "3 NoNode"),
+        ("t1s 1/noise 0 1/node 0 0 0/end 1/", ""),
+        ("B3/noise 5 2000000/noise 5 6/fill 7 1 60 00/end 8/", ""),
+    ];
+    Ok(check_rows(&rt, rt.alloc(), &rows)?)
 }
 
 #[test]
 fn longer_texts_are_refused_as_a_whole(rt: HostRuntime) -> Result<(), Fail> {
     let alloc = rt.alloc();
-    let long = vec![in alloc; b'x'; 1_048_577]?;
-    let whole = Some(ScriptRefusal {
-        line: 0,
-        reason: ScriptReason::TooLong,
-    });
-    assert_eq!(rt; refusal_of(alloc, long.as_slice()), whole);
-    let shorter = Some(ScriptRefusal {
-        line: 1,
-        reason: ScriptReason::FirstLine,
-    });
-    assert_eq!(rt; refusal_of(alloc, &long.as_slice()[1..]), shorter);
+    let long = "x".repeat(alloc, 1_048_577)?;
+    let whole = "x".repeat(alloc, 1_048_576)?;
+    let rows = [
+        (long.as_str(), "0 TooLong"),
+        (whole.as_str(), "1 FirstLine"),
+    ];
+    Ok(check_rows(&rt, alloc, &rows)?)
+}
+
+/// The numbers of a script as a text: its settings, its seed and its end, and those of each node.
+fn numbers_of(alloc: Global, script: &Script) -> Result<String, AllocError> {
+    let mut text = format!(in alloc;
+        "{} {} {} {} {} {} {} {}",
+        script.count,
+        script.to,
+        script.rise,
+        script.fall,
+        script.burst,
+        script.room,
+        script.seed,
+        script.end
+    )?;
+    for node in script.nodes.as_slice() {
+        let numbers = format!(in alloc;
+            ", {} {} {} {} {}",
+            node.no, node.id, node.place, node.to, node.start
+        )?;
+        text.push_str(numbers.as_str())?;
+    }
+    Ok(text)
+}
+
+#[test]
+fn settings_hold_for_lines_above_them(rt: HostRuntime) -> Result<(), Fail> {
+    let alloc = rt.alloc();
+    let rows = [
+        (
+            "t1s 1/node 3 1 2/end 2000000",
+            "8 32 4 4 0 8 1 2000000, 3 1 2 32 0",
+        ),
+        (
+            "t1s 1/node 15 255 255/late 15 2000000/# a note/node 0 0 0/node 1 7 0/tonode 1 20/seed 4294967295/\
+room 64/burst 255/fall 16/rise 16/to 255/count 254/end 1/# the end/",
+            "254 255 16 16 255 64 4294967295 1, 0 0 0 255 0, 1 7 0 20 0, 15 255 255 255 2000000",
+        ),
+    ];
+    for (text, want) in rows {
+        let numbers = numbers_of(alloc, &read(alloc, text)?)?;
+        assert_eq!(rt; numbers.as_str(), want);
+    }
     Ok(())
 }
 
-/// A premise that isn't met.
-pub fn unmet(premise: u8, left: u64, right: u64) -> Result<(), Unfit> {
-    Err(Unfit {
-        premise,
-        left,
-        right,
-    })
-}
-
-/// Sees that the script that is read has that fitness.
-fn check_fit(
-    rt: &impl Abort,
-    alloc: Global,
-    text: &str,
-    want: Result<(), Unfit>,
-) -> Result<(), ScriptFault> {
-    let script = read_script(alloc, text.as_bytes())?;
-    assert_eq!(rt; fit(&script), want, "{text}");
-    Ok(())
+/// Whether a script is fit, as a text: the premise that isn't met and its two values.
+fn fitness_of(alloc: Global, script: &Script) -> Result<String, AllocError> {
+    match fit(script) {
+        Ok(()) => String::from_str(alloc, "fit"),
+        Err(
+            Unfit {
+                premise,
+                left,
+                right,
+            },
+        ) => format!(in alloc; "unfit {premise} {left} {right}"),
+    }
 }
 
 #[test]
 fn the_first_unmet_premise_is_told(rt: HostRuntime) -> Result<(), Fail> {
     let alloc = rt.alloc();
     let rows = [
-        ("node 0 0 0\nnode 1 1 9\n", Ok(())),
-        ("node 0 0 9\nnode 1 0 9\n", unmet(1, 2, 1)),
-        ("node 0 1 9\nnode 1 1 9\n", unmet(1, 0, 1)),
-        ("node 0 0 9\nnode 1 2 9\n", unmet(3, 2, 2)),
-        ("node 0 0 9\nnode 1 1 9\nnode 2 1 9\n", unmet(2, 2, 1)),
-        ("node 0 0 9\nnode 1 1 9\nburst 15\n", Ok(())),
-        ("node 0 0 9\nnode 1 1 9\nburst 16\n", unmet(6, 16, 15)),
-        ("node 0 0 0\nnode 1 1 13\nrise 5\n", Ok(())),
-        ("node 0 0 0\nnode 1 1 14\n", unmet(7, 32, 32)),
+        ("t1s 1/count 2/node 0 0 0/node 1 1 9/end 10", "fit"),
+        ("t1s 1/count 2/node 0 0 9/node 1 0 9/end 10", "unfit 1 2 1"),
+        ("t1s 1/count 2/node 0 1 9/node 1 1 9/end 10", "unfit 1 0 1"),
+        ("t1s 1/count 2/node 0 0 9/node 1 2 9/end 10", "unfit 3 2 2"),
+        ("B3/node 3 1 9/end 10", "unfit 2 3 1"),
+        ("B3/to 40/tonode 2 40/end 10", "fit"),
+        ("B3/tonode 2 40/end 10", "unfit 4 40 32"),
+        (
+            "B3/tonode 2 40/tonode 1 20/noise 5 9/end 10",
+            "unfit 4 20 32",
+        ),
+        ("B3/noise 5 9/end 10", "unfit 5 5 9"),
+        (
+            "B3/burst 16/fill 3 0 60 00/noise 4 2000000/noise 5 6/end 10",
+            "unfit 5 4 2000000",
+        ),
+        ("B3/burst 15/end 10", "fit"),
+        ("B3/burst 16/end 10", "unfit 6 16 15"),
+        ("t1s 1/count 2/rise 5/node 0 0 0/node 1 1 13/end 10", "fit"),
+        (
+            "t1s 1/count 2/node 0 0 0/node 1 1 14/end 10",
+            "unfit 7 32 32",
+        ),
     ];
-    for (lines, want) in rows {
-        let text = format!(in alloc; "t1s 1\ncount 2\n{lines}end 10\n")?;
-        check_fit(&rt, alloc, text.as_str(), want)?;
+    for (text, want) in rows {
+        let fitness = fitness_of(alloc, &read(alloc, text)?)?;
+        assert_eq!(rt; fitness.as_str(), want, "{text}");
     }
     Ok(())
 }
@@ -237,19 +218,18 @@ fn the_first_unmet_premise_is_told(rt: HostRuntime) -> Result<(), Fail> {
 fn the_span_and_the_bound_are_told(rt: HostRuntime) -> Result<(), Fail> {
     let alloc = rt.alloc();
     let rows = [
-        ("rise 5\nnode 0 0 0\nnode 1 1 13\n", (13, 64_335)),
-        ("node 0 0 9\nnode 1 1 9\n", (0, 64_200)),
-        ("node 0 0 9\n", (0, 64_200)),
-        ("node 0 0 8\nnode 1 1 3\nnode 2 2 6\n", (5, 64_250)),
+        (
+            "t1s 1/count 2/rise 5/node 0 0 0/node 1 1 13/end 10",
+            (13, 64_335),
+        ),
+        ("t1s 1/count 2/node 0 0 9/node 1 1 9/end 10", (0, 64_200)),
+        ("t1s 1/count 2/node 0 0 9/end 10", (0, 64_200)),
+        ("B3/end 10", (5, 76_840)),
     ];
-    for (lines, want) in rows {
-        let text = format!(in alloc; "t1s 1\ncount 2\n{lines}end 10\n")?;
-        let script = read_script(alloc, text.as_bytes())?;
+    for (text, want) in rows {
+        let script = read(alloc, text)?;
         assert_eq!(rt; (span(&script), bound(&script)), want, "{text}");
     }
-    let three = b"t1s 1\ncount 3\nnode 0 0 0\nnode 1 1 2\nnode 2 2 5\nend 10\n";
-    let script = read_script(alloc, three)?;
-    assert_eq!(rt; (span(&script), bound(&script)), (5, 76_840));
     Ok(())
 }
 
@@ -280,9 +260,10 @@ fn wide_script(alloc: Global) -> Result<Script, AllocError> {
 
 #[test]
 fn the_bound_has_no_condition(rt: HostRuntime) -> Result<(), Fail> {
-    let script = wide_script(rt.alloc())?;
-    assert_eq!(rt; fit(&script), unmet(4, 40, 255));
-    assert_eq!(rt; span(&script), 255);
-    assert_eq!(rt; bound(&script), 818_308_930);
+    let alloc = rt.alloc();
+    let script = wide_script(alloc)?;
+    let fitness = fitness_of(alloc, &script)?;
+    assert_eq!(rt; fitness.as_str(), "unfit 4 40 255");
+    assert_eq!(rt; (span(&script), bound(&script)), (255, 818_308_930));
     Ok(())
 }

@@ -83,9 +83,11 @@ pub enum Word {
     Seed,
     Node,
     Late,
+    ToNode,
     Draw,
     Offer,
     Fill,
+    Noise,
     End,
 }
 
@@ -102,10 +104,14 @@ pub enum ScriptLine {
     Node { no: u8, id: u8, place: u8 },
     /// The tick at which the node of that number starts.
     Late { no: u8, start: u64 },
+    /// The opportunity timer of the node of that number, in ticks.
+    ToNode { no: u8, to: u8 },
     /// A draw of the node of that number.
     Draw { no: u8, draw: u16 },
     /// A frame that is offered to the node of that number.
     Offer { tick: u64, no: u8, frame: Frame },
+    /// A noise from the one tick on and below the other.
+    Noise { tick: u64, until: u64 },
     /// The number of ticks of the run.
     End(u64),
 }
@@ -132,12 +138,16 @@ pub fn word_in(field: &[u8]) -> Option<Word>
         Some(Word::Node)
     } else if field == b"late".as_slice() {
         Some(Word::Late)
+    } else if field == b"tonode".as_slice() {
+        Some(Word::ToNode)
     } else if field == b"draw".as_slice() {
         Some(Word::Draw)
     } else if field == b"offer".as_slice() {
         Some(Word::Offer)
     } else if field == b"fill".as_slice() {
         Some(Word::Fill)
+    } else if field == b"noise".as_slice() {
+        Some(Word::Noise)
     } else if field == b"end".as_slice() {
         Some(Word::End)
     } else {

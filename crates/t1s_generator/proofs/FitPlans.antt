@@ -1,0 +1,78 @@
+-- The script that the lines of a plan give is fit.
+use Rattle.std.proofs.Common.{◌≡◌, ◌≢◌, ℕ, zero, suc, ◌+◌, ◌<◌, ◌≤◌, false, cond, map, Some, refl, sym, ap, ◌∙◌, subst, arith, All}
+use Rattle.std.specs.Prelude.{◌==◌, slice_get}
+use Rattle.std.specs.List.{range_with_len, sum_by}
+use Rattle.std.proofs.lemmas.Bool.Decides.{nat_tests}
+use Rattle.std.proofs.lemmas.List.Sums.{sum_by-cons}
+use Rattle.t1s_script.specs.Values.{setting_of}
+use Rattle.t1s_script.specs.Reading.{script_from, nodes_of}
+use Rattle.t1s_script.specs.Fit.{farthest, widest, coordinators, IsFit}
+use Rattle.t1s_script.specs.declared.script.NodeLine.{NodeLine}
+use Rattle.t1s_script.specs.declared.words.Setting.TheVariants.{To}
+use Rattle.t1s_generator.proofs.Left.{each_counted}
+use Rattle.t1s_generator.proofs.Plans.{Plan, IsPlan, said}
+use Rattle.t1s_generator.proofs.Defaults.{to_default, rise_default, burst_default, timer_default, all_offers}
+use Rattle.t1s_generator.proofs.SaidNodes.{node_said, nodes_said}
+
+module _ (p : Plan) (h : IsPlan p) where
+  abbrev node : ℕ → NodeLine
+  node = node_said p
+
+  -- ---- the node with the ID 0
+
+  abbrev counts : NodeLine → ℕ
+  counts n = cond (n.id == 0) 1 0
+
+  others : (from count : ℕ) → 1 ≤ from → coordinators (map node (range_with_len from count)) ≡ 0
+  others from zero some = refl
+  others from (suc count) some =
+      let other : (from == 0) ≡ false = grind (arith, nat_tests) in
+      sum_by-cons counts (node from) (map node (range_with_len (from + 1) count))
+      ∙ ap (λ b. cond b 1 0 + sum_by counts (map node (range_with_len (from + 1) count))) other
+      ∙ ap (λ k. 0 + k) (others (from + 1) count (omega arith))
+
+  one_coordinator : (count : ℕ) → 1 ≤ count → coordinators (map node (range_with_len 0 count)) ≡ 1
+  one_coordinator zero some = absurd (omega arith)
+  one_coordinator (suc count) some =
+      sum_by-cons counts (node 0) (map node (range_with_len (0 + 1) count)) ∙ ap (λ k. 1 + k) (others (0 + 1) count (omega arith))
+
+  -- ---- each node
+
+  node_at : (from count i : ℕ) (n : NodeLine) → slice_get (map node (range_with_len from count)) i ≡ Some n → n.id ≡ from + i
+  node_at from zero i n at = cc
+  node_at from (suc count) zero n at =
+      let same : node from ≡ n = cc in
+      subst (λ (m : NodeLine). m.id ≡ from + 0) same (omega arith)
+  node_at from (suc count) (suc i) n at = omega (arith, node_at (from + 1) count i n at)
+
+  -- ---- the span
+
+  near : (x from count : ℕ) → x ≤ 12 → farthest x (map node (range_with_len from count)) ≤ 12
+  near x from zero low = omega arith
+  near x from (suc count) low = omega (arith, h.place_high from, near x (from + 1) count low)
+
+  narrow : (from count : ℕ) → widest (map node (range_with_len from count)) ≤ 12
+  narrow from zero = omega arith
+  narrow from (suc count) = omega (arith, near (p.place from) (from + 1) count (h.place_high from), narrow (from + 1) count)
+
+  -- ---- all premises
+
+  pub fit_plan : IsFit (script_from (said p) p.last)
+  fit_plan =
+      let all : nodes_of (said p) ≡ map node (range_with_len 0 p.nodes) = nodes_said p h.nodes_high in
+      let span : widest (nodes_of (said p)) ≤ 12 = subst (λ ns. widest ns ≤ 12) (sym all) (narrow 0 p.nodes) in
+      record {
+        one_coordinator = ap coordinators all ∙ one_coordinator p.nodes h.nodes_low;
+        distinct_ids = distinct all;
+        low_ids = subst (All (λ (n : NodeLine). n.id < p.nodes)) (sym all) (each_counted (λ (n : NodeLine). n.id < p.nodes) node 0 p.nodes (λ k below. omega arith));
+        one_timer = subst (All (λ (n : NodeLine). n.to ≡ setting_of To (said p))) (sym all) (each_counted (λ (n : NodeLine). n.to ≡ setting_of To (said p)) node 0 p.nodes (λ k below. timer_default p k (k, p.place k)));
+        no_noise = all_offers p;
+        short_bursts = omega (arith, burst_default p);
+        short_cable = omega (arith, span, rise_default p, to_default p);
+      }
+    where
+      distinct : nodes_of (said p) ≡ map node (range_with_len 0 p.nodes) → (i j : ℕ) (m n : NodeLine) → slice_get (nodes_of (said p)) i ≡ Some m → slice_get (nodes_of (said p)) j ≡ Some n → i < j → m.id ≢ n.id
+      distinct all i j m n at there below same =
+          let first = node_at 0 p.nodes i m (ap (λ ns. slice_get ns i) (sym all) ∙ at) in
+          let second = node_at 0 p.nodes j n (ap (λ ns. slice_get ns j) (sym all) ∙ there) in
+          omega arith

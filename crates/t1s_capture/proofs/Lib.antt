@@ -12,6 +12,7 @@ pub mod States
 pub mod ItemOctets
 pub mod Steps
 pub mod Feeding
+mod Advancing
 pub mod Rows
 pub mod Cuts
 pub mod CutItems

@@ -14,3 +14,5 @@ pub mod StepAnswers
 pub mod Cut
 pub mod CutRows
 pub mod WriterTable
+pub mod Outcomes
+pub mod Advances

@@ -1,5 +1,5 @@
 -- What a step of a decoder leads to, with the progress that it leaves.
-use Rattle.std.specs.Prelude.{◌≡◌, ℕ, suc, ◌+◌, List, drop, Result, Ok, Err}
+use Rattle.std.specs.Prelude.{◌≡◌, ℕ, suc, ◌+◌, Bool, true, false, List, drop, Result, Ok, Err}
 use Rattle.t1s_pcs_rx.specs.PieceReading.{without_nibbles}
 use Rattle.t1s_capture.specs.declared.items.Why.{Why}
 use Rattle.t1s_capture.specs.declared.stage.BurstSoFar.{BurstSoFar}
@@ -32,6 +32,11 @@ counted p = record { taken = p.taken + 1; counts = p.counts; reader = p.reader }
 
 abbrev pub let_go : Progress → Progress
 let_go p = record { taken = p.taken; counts = p.counts; reader = without_nibbles p.reader }
+
+-- the progress once the nibbles of an item that was handed out are let go, if there was one
+abbrev pub settled : Bool → Progress → Progress
+settled true p = let_go p
+settled false p = p
 
 -- what a step leaves fits the stage that it leads to
 abbrev pub StepFits : Step → Progress → Type 0

@@ -1,16 +1,15 @@
 //! The decoder of captures.
+ghost use Rattle.std.specs.Borrow.{sem};
+
+use crate::capture_reader::{CaptureReader, Outcome};
 use crate::held_item::HeldItem;
-use crate::items::{Counts, Item, Refusal, Why};
-use crate::progress::{Progress, Step};
-use crate::stage::Stage;
+use crate::items::{Counts, Item, Refusal};
 use std::marker::Model;
-use t1s_pcs_rx::PieceReader;
 
 /// Reads a capture octet by octet.
 #[derive(Drop)]
 pub struct Decoder {
-    progress: Progress,
-    stage: Stage,
+    reader: CaptureReader,
 }
 
 impl Model for Decoder {
@@ -18,24 +17,14 @@ impl Model for Decoder {
 
     ghost Value = { DecoderState };
 
-    ghost use Rattle.t1s_capture.specs.Ranges.{Fits};
-
-    ghost view = { λ d. record {
-      taken = d.progress.taken;
-      counts = d.progress.counts;
-      reader = d.progress.reader;
-      stage = d.stage;
-    } };
-
-    ghost invariant = { λ d. Fits d.progress d.stage };
+    ghost view = { λ d. d.reader.decoder };
 }
 
 /// A decoder that holds an item until it is released: no octet can be fed meanwhile. The frame of a piece is lent from
 /// what the decoder has read.
 #[derive(Drop)]
 pub struct Held {
-    progress: Progress,
-    stage: Stage,
+    reader: CaptureReader,
     item: HeldItem,
 }
 
@@ -44,22 +33,9 @@ impl Model for Held {
 
     ghost Value = { HeldState };
 
-    ghost use Rattle.t1s_pcs_rx.specs.PieceReading.{without_nibbles};
     ghost use Rattle.t1s_capture.specs.HeldItems.{held_item};
-    ghost use Rattle.t1s_capture.specs.StepAnswers.{let_go};
-    ghost use Rattle.t1s_capture.specs.Ranges.{Fits};
 
-    ghost view = { λ h. record {
-      item = held_item h.item h.progress.reader.nibbles;
-      decoder = record {
-        taken = h.progress.taken;
-        counts = h.progress.counts;
-        reader = without_nibbles h.progress.reader;
-        stage = h.stage;
-      };
-    } };
-
-    ghost invariant = { λ h. Fits (let_go h.progress) h.stage };
+    ghost view = { λ h. record { item = held_item h.item h.reader.nibbles; decoder = h.reader.decoder } };
 }
 
 /// What an octet leads to.
@@ -73,6 +49,17 @@ pub enum Next {
     Refused(Refusal),
 }
 
+/// What the octets of a piece lead to, the decoder staying where it is.
+#[derive(Clone, Copy, PartialEq, Eq, Debug)]
+pub enum Advance<'a> {
+    /// No item is handed out here.
+    More,
+    /// This item is handed out. It is lent until the decoder is used again.
+    Held(Item<'a>),
+    /// The octet leaves the grammar. The decoder is as a new one.
+    Refused(Refusal),
+}
+
 impl Decoder {
     ghost use Rattle.std.specs.Prelude.{◌≡◌, ◌↔◌, ◌≤◌, ℕ, List, [], ◌∷◌, ◌++◌, length};
     ghost use Rattle.t1s_capture.specs.declared.items.Counts.{Counts};
@@ -83,7 +70,9 @@ impl Decoder {
     ghost use Rattle.t1s_capture.specs.Stands.{Stands, state_of};
     ghost use Rattle.t1s_capture.specs.PrefixParts.{in_magic};
     ghost use Rattle.t1s_capture.specs.Answers.{YieldsItem, IsCountedCapture, IsFed, StandsAfter};
-    ghost use Rattle.t1s_capture.specs.DecoderTable.{fed, finished};
+    ghost use Rattle.t1s_capture.specs.DecoderTable.{fed};
+    ghost use Rattle.t1s_capture.specs.Advances.{LeavesDecoder, AdvanceFits, advance_next};
+    ghost use Rattle.t1s_capture.specs.Outcomes.{decoder_left};
 
     /// A decoder that has taken no octet.
     pub fn new() -> Decoder
@@ -91,20 +80,7 @@ impl Decoder {
         ensures stands { Stands [] result }
     {
         Decoder {
-            progress: Progress {
-                taken: 0,
-                counts: Counts {
-                    ticks: 0,
-                    beacons: 0,
-                    runs: 0,
-                    bare: 0,
-                    torn: 0,
-                    pieces: 0,
-                    good: 0,
-                },
-                reader: PieceReader::new(),
-            },
-            stage: Stage::Magic(0),
+            reader: CaptureReader::new(),
         }
     }
 
@@ -135,6 +111,25 @@ impl Decoder {
         self.run(piece)
     }
 
+    /// The same in place: the decoder stays where it is, and lends the item that is handed out. After a refusal it is as a
+    /// new one, which has taken no octet.
+    pub fn advance(&mut self, piece: &[u8]) -> (usize, Advance<'_>)
+        requires { 1 ≤ length piece.now }
+        ensures* after { sem 𝓛 (LeavesDecoder self.entry piece.now) }
+        ensures some { 1 ≤ result.0 }
+        ensures within { result.0 ≤ length piece.now }
+        ensures fed { (before : List ℕ) → Stands before self.old →
+            IsFed before piece.now result.0 (advance_next result.1 (decoder_left self.old piece.now)) }
+        ensures fits { AdvanceFits result.1 }
+    {
+        let (count, outcome) = self.reader.run(piece);
+        match outcome {
+            Outcome::More => (count, Advance::More),
+            Outcome::Held(item) => (count, Advance::Held(self.reader.item(&item))),
+            Outcome::Refused(refusal) => (count, Advance::Refused(refusal)),
+        }
+    }
+
     /// Ends the input. It is Ok exactly where the octets that were taken are a capture, with its counts. Else they are
     /// refused as `Truncated`, at their number.
     pub fn finish(self) -> Result<Counts, Refusal>
@@ -143,7 +138,7 @@ impl Decoder {
         ensures truncated { (octets : List ℕ) (r : Refusal) → Stands octets self →
             (result ≡ Err r) ↔ IsFirstOffence octets r.offset r.why }
     {
-        self.ended()
+        self.reader.ended()
     }
 
     /// The octets by the table of stages, one after another.
@@ -151,25 +146,9 @@ impl Decoder {
     fn run(self, piece: &[u8]) -> (usize, Next)
         ensures { result ≡ fed self piece.now }
     {
-        let Decoder {
-            mut progress,
-            stage,
-        } = self;
-        let (count, step) = progress.run(stage, piece);
-        (count, progress.leads(step))
-    }
-
-    /// The end by the stage.
-    fn ended(self) -> Result<Counts, Refusal>
-        ensures { result ≡ finished self }
-    {
-        match self.stage {
-            Stage::Ended => Ok(self.progress.counts),
-            _ => Err(Refusal {
-                offset: self.progress.taken,
-                why: Why::Truncated,
-            }),
-        }
+        let Decoder { mut reader } = self;
+        let (count, outcome) = reader.run(piece);
+        (count, reader.leads(outcome))
     }
 }
 
@@ -183,46 +162,32 @@ impl Held {
         ensures item { decoded_item result ≡ self.now.item }
         ensures fits { length (frame_of_item (decoded_item result)) ≤ 1522 }
     {
-        self.item.shown(&self.progress.reader)
+        self.reader.item(&self.item)
     }
 
     /// Lets the item go. The decoder stands for all octets taken, the one that handed the item out among them.
     pub fn release(self) -> Decoder
         ensures decoder { result ≡ self.decoder }
     {
-        let mut held = self;
-        held.progress.reader.clear();
         Decoder {
-            progress: held.progress,
-            stage: held.stage,
+            reader: self.reader,
         }
     }
 }
 
-impl Progress {
+impl CaptureReader {
     ghost use Rattle.std.specs.Prelude.{◌≡◌};
-    ghost use Rattle.t1s_capture.specs.StepAnswers.{LastFits, last_next};
+    ghost use Rattle.t1s_capture.specs.Outcomes.{outcome_next};
 
-    /// What the last octet led to, which is counted where it isn't refused.
+    /// What the last octet led to.
     #[inline(always)]
-    fn leads(self, step: Step) -> Next
-        requires { LastFits step self }
-        ensures { result ≡ last_next step self }
+    fn leads(self, outcome: Outcome) -> Next
+        ensures { result ≡ outcome_next outcome self }
     {
-        match step {
-            Step::Goes(stage) => Next::More(Decoder {
-                progress: self,
-                stage,
-            }),
-            Step::Yields(item, stage) => Next::Held(Held {
-                progress: self,
-                stage,
-                item,
-            }),
-            Step::Refuses(why) => Next::Refused(Refusal {
-                offset: self.taken,
-                why,
-            }),
+        match outcome {
+            Outcome::More => Next::More(Decoder { reader: self }),
+            Outcome::Held(item) => Next::Held(Held { reader: self, item }),
+            Outcome::Refused(refusal) => Next::Refused(refusal),
         }
     }
 }

@@ -168,7 +168,7 @@ impl Progress {
         self.goes(Stage::Magic(taken + 1))
     }
 
-    fn in_gap(&mut self, count: CountSoFar, octet: u8) -> Step
+    pub fn in_gap(&mut self, count: CountSoFar, octet: u8) -> Step
         requires below { self.old.taken < 2 ^ 30 }
         requires fits { Fits self.old (InGap count) }
         ensures next { step_next result self.new ≡ gap_step self.old count octet }
@@ -183,7 +183,7 @@ impl Progress {
         }
     }
 
-    fn gap_ends(&mut self, ticks: u32) -> Step
+    pub fn gap_ends(&mut self, ticks: u32) -> Step
         requires below { self.old.taken < 2 ^ 30 }
         requires fits { (a : ℕ) × (b : ℕ) × (c : ℕ) × Fits self.old (InGap (Three a b c)) }
         ensures next { step_next result self.new ≡ gap_ends self.old ticks }

@@ -3,7 +3,8 @@ ghost use Rattle.std.specs.Prelude.{◌≡◌, ◌≤◌, ◌<◌, ◌^◌, fals
 ghost use Rattle.t1s_symbols.specs.Ranges.{IsSymbol};
 ghost use Rattle.t1s_grammar.specs.PlaceTable.{place_step};
 ghost use Rattle.t1s_capture.specs.declared.stage.OctetKind.TheVariants.{Known};
-ghost use Rattle.t1s_capture.specs.declared.stage.Stage.TheVariants.{InBurst};
+ghost use Rattle.t1s_capture.specs.declared.stage.CountSoFar.TheVariants.{Nothing};
+ghost use Rattle.t1s_capture.specs.declared.stage.Stage.TheVariants.{InGap, InBurst};
 ghost use Rattle.t1s_capture.specs.DecoderTable.{fed, goes, symbol_step, symbol_taken};
 ghost use Rattle.t1s_capture.specs.OctetKinds.{OctetKindInRange};
 ghost use Rattle.t1s_capture.specs.Ranges.{Fits, FitsSymbol, closes};
@@ -12,7 +13,7 @@ ghost use Rattle.t1s_capture.specs.StepAnswers.{IsSteppedTo, LastFits, StepFits,
 use crate::format::LIMIT;
 use crate::items::Why;
 use crate::progress::{Progress, Step};
-use crate::stage::{BurstSoFar, OctetKind, Stage, kind_of_octet};
+use crate::stage::{BurstSoFar, CountSoFar, OctetKind, Stage, count_of, kind_of_octet};
 use t1s_grammar::PlaceFault;
 use t1s_symbols::Symbol;
 
@@ -62,8 +63,8 @@ impl Progress {
         (octets.len(), Step::Goes(stage))
     }
 
-    /// Takes octets one after another: within a burst its symbols, up to the first octet that leads elsewhere, and else one
-    /// octet. It answers the place of the last octet that was taken, and what it leads to. That one is not counted here.
+    /// Takes octets one after another: within a burst its symbols, up to the first octet that leads elsewhere, the count of a
+    /// gap as a whole, and else one octet. It answers the place of the last octet that was taken, and what it leads to. That one is not counted here.
     fn stretch(&mut self, stage: Stage, octets: &[u8]) -> (usize, Step)
         requires some { 1 ≤ length octets.now }
         requires below { self.old.taken < 2 ^ 30 }
@@ -75,8 +76,27 @@ impl Progress {
     {
         match stage {
             Stage::InBurst(burst) => self.symbols(burst, octets),
+            Stage::InGap(CountSoFar::Nothing) => self.gap(octets),
             other => (0, self.step(other, octets[0])),
         }
+    }
+
+    /// The same where a gap has begun: all octets of its count, if they are there, and else one.
+    fn gap(&mut self, octets: &[u8]) -> (usize, Step)
+        requires some { 1 ≤ length octets.now }
+        requires below { self.old.taken < 2 ^ 30 }
+        requires fits { Fits self.old (InGap Nothing) }
+        ensures within { result.0 < length octets.now }
+        ensures next { IsSteppedTo (decoder_at self.old (InGap Nothing)) octets.now result.0 (step_next result.1 self.new) }
+        ensures fits { StepFits result.1 self.new }
+        ensures below { self.new.taken < 2 ^ 30 }
+    {
+        if octets.len() < 4 || LIMIT - self.taken < 4 {
+            return (0, self.in_gap(CountSoFar::Nothing, octets[0]));
+        }
+        self.taken += 3;
+        let ticks = count_of(octets[0], octets[1], octets[2], octets[3]);
+        (3, self.gap_ends(ticks))
     }
 
     /// The same within a burst. No octet past the most that a capture may have is taken.

@@ -1,5 +1,5 @@
 -- What each node of a script hears in a tick, and whether it drives in it, is what comes of the tick at that node.
-use Rattle.std.proofs.Common.{◌≡◌, ℕ, zero, suc, ◌<◌, ◌≤◌, inl, inr, Bool, false, cond, ltb, List, [], ◌∷◌, length, get_or, map, Option, Some, None, refl, sym, ◌∙◌, ap, arith}
+use Rattle.std.proofs.Common.{◌≡◌, ℕ, zero, suc, ◌<◌, ◌≤◌, inl, inr, Bool, false, ◌&&◌, ◌||◌, cond, ltb, List, [], ◌∷◌, length, get_or, map, Option, Some, None, refl, sym, ◌∙◌, ap, arith}
 use Rattle.std.specs.Option.{option_map}
 use Rattle.std.specs.Prelude.{◌==◌, slice_get, is_some}
 use Rattle.std.proofs.lemmas.Bool.{cases_lt, lt-ltb, le-ltb}
@@ -13,6 +13,7 @@ use Rattle.t1s_ring.specs.declared.queued.Queued.{Queued}
 use Rattle.t1s_world.specs.World.{heard_at, hear_outcomes_at}
 use Rattle.t1s_world.proofs.ListLemmas.{get_or-map}
 use Rattle.t1s_world.proofs.WorldLemmas.{driven_is, hear_outcome_is, length-nodes, past_keeps}
+use Rattle.t1s_node.specs.Node.{is_heard, is_many}
 use Rattle.t1s_script.specs.declared.script.Script.{Script}
 use Rattle.t1s_script.specs.declared.script.NodeLine.{NodeLine}
 use Rattle.t1s_line.specs.declared.track.Track.{Track}
@@ -21,7 +22,7 @@ use Rattle.t1s_line.specs.Acts.{offers_to, with_noise}
 use Rattle.t1s_line.specs.Outcomes.{HearOutcome, with_offers}
 use Rattle.t1s_line.specs.Runs.{heard_below, hearings_in, heard_tick, last_heard_in}
 use Rattle.t1s_line.specs.Track.{track_phases, offer_track, offered_track, offer_outcome, drive_track, hear_track, no_drive, no_hearing, driven_track, drive_outcome, hearing_track, hear_outcome}
-use Rattle.t1s_line.specs.World.{machine_of, world, places_of, first_track, first_tracks, position_of, start_of, heard_in, tick_in, last_heard}
+use Rattle.t1s_line.specs.World.{machine_of, world, places_of, first_track, first_tracks, position_of, start_of, driven_in, heard_in, tick_in, last_heard, clash_at}
 
 -- ---- an offer and the two phases before the start and from it on
 
@@ -118,6 +119,31 @@ module _ (s : Script) where
       let comes = hear_outcome_is (machine_of s) (places_of s) (first_tracks s) t j k at in
       rw (same, drives)
       (get_or-map heard_tick outcomes j (hear_track t y (drive_track t after).0).1 (Nothing, false) comes ∙ outcome_is t y after)
+
+  -- whether signals meet there
+  meets_is : (t : ℕ) (x : Heard) (k : Track) → (hear_track t x (drive_track t k).0).1.clash ≡ cond (ltb t k.start) false (is_many x || (is_some (drive_track t k).1.quarter && is_heard x))
+  meets_is t x k = elim (cases_lt t k.start) [
+    | inl lt ↦ rw (drive_before t k lt, hear_before t x k lt, lt-ltb t k.start lt) refl
+    | inr ge ↦ rw (drive_started t k ge, hear_started t x (driven_track k) ge, le-ltb t k.start ge) refl
+  ]
+
+  -- what the node at a position hears once it has started, and so whether signals meet there
+  abbrev pub comes_to : ℕ → ℕ → Heard
+  comes_to t j = with_noise s.acts t (heard_at (machine_of s) (places_of s) (first_tracks s) t j)
+
+  pub clash_is : (t j : ℕ) → j < length s.nodes
+      → clash_at s j t ≡ cond (ltb t (start_of s j)) false (is_many (comes_to t j) || (is_some (driven_in s j t) && is_heard (comes_to t j)))
+  unfolding clash_at hearings_in
+  clash_is t j there =
+      let (k, at, start) = track_at t j there in
+      let y : Heard = comes_to t j in
+      let after : Track = offered_in t k in
+      let same : start_of s j ≡ after.start = start ∙ sym (offers_start t (offers_to s.acts t k.no) k) in
+      let outcomes : List HearOutcome = hear_outcomes_at (machine_of s) (places_of s) (first_tracks s) t in
+      let drives = driven_is (machine_of s) (places_of s) (first_tracks s) t j k at in
+      let comes = hear_outcome_is (machine_of s) (places_of s) (first_tracks s) t j k at in
+      rw (same, drives)
+      (get_or-map (λ (d : HearOutcome). d.clash) outcomes j (hear_track t y (drive_track t after).0).1 false comes ∙ meets_is t y after)
 
   -- so what the nodes heard in the last tick is what the script's run tells
   pub last_heard_is : (node t : ℕ) → last_heard_in track_phases s.acts s.nodes (first_tracks s) node t ≡ last_heard s node t

@@ -13,3 +13,4 @@ pub mod TotalsTold
 pub mod OneRecord
 pub mod RecordTicks
 pub mod WaitsTold
+pub mod Meetings

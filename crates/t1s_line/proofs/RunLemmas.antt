@@ -1,5 +1,5 @@
 -- What a run keeps, at its start and one tick later.
-use Rattle.std.proofs.Common.{◌≡◌, ℕ, zero, suc, ◌+◌, List, [], ◌∷◌, length, map, Bool, false, cond, Some, None, refl, sym, ◌∙◌, ap, add-one}
+use Rattle.std.proofs.Common.{◌≡◌, ℕ, zero, suc, ◌+◌, List, [], ◌∷◌, map, false, cond, Some, None, refl, ◌∙◌, ap, add-one}
 use Rattle.std.specs.Option.{option_or}
 use Rattle.t1s_symbols.specs.declared.Heard.TheVariants.{Nothing}
 use Rattle.t1s_world.specs.Lists.{each_with}

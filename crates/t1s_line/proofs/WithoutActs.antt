@@ -1,8 +1,6 @@
 -- The run of a script without acts: no node is offered a frame, and no noise is heard.
-use Rattle.std.proofs.Common.{◌≡◌, ℕ, List, [], Option, refl, ◌∙◌, ap}
+use Rattle.std.proofs.Common.{◌≡◌, ℕ, List, [], refl, ◌∙◌, ap}
 use Rattle.t1s_symbols.specs.declared.Heard.{Heard}
-use Rattle.t1s_symbols.specs.declared.Quarter.{Quarter}
-use Rattle.t1s_world.specs.World.{Machine}
 use Rattle.t1s_script.specs.declared.script.Script.{Script}
 use Rattle.t1s_script.specs.declared.script.Act.{Act}
 use Rattle.t1s_line.specs.declared.track.Track.{Track}

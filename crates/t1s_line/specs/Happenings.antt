@@ -1,5 +1,5 @@
 -- What happens in the run of a script, as the laws on runs speak of it. Drives are told by `IsDrive` over `driven_in`.
-use Rattle.std.specs.Prelude.{◌≡◌, ℕ, zero, suc, ◌<◌, ◌≤◌, Bool, true, false, List, ◌∷◌, ◌++◌, length, map, get_or, slice_get, Option, None, Some, Contains}
+use Rattle.std.specs.Prelude.{◌≡◌, ℕ, zero, suc, ◌<◌, ◌≤◌, Bool, true, false, List, ◌∷◌, ◌++◌, length, map, get_or, slice_get, None, Some, Contains}
 use Rattle.t1s_ring.specs.declared.queued.Queued.{Queued}
 use Rattle.t1s_mac.specs.declared.outcome.MacNote.TheVariants.{Jam, Drop, Sent}
 use Rattle.t1s_pcs_rx.specs.declared.piece.Kind.{Kind}
@@ -8,7 +8,6 @@ use Rattle.t1s_script.specs.declared.script.Script.{Script}
 use Rattle.t1s_line.specs.declared.offers.OfferOutcome.TheVariants.{Full, Off}
 use Rattle.t1s_line.specs.declared.track.Track.{Track}
 use Rattle.t1s_line.specs.Acts.{offers_to}
-use Rattle.t1s_line.specs.Offers.{OfferRecord}
 use Rattle.t1s_line.specs.Outcomes.{DriveOutcome, with_offers}
 use Rattle.t1s_line.specs.Track.{track_phases}
 use Rattle.t1s_line.specs.World.{world, drives_at, note_at, piece_at, clash_at, offer_records_at}

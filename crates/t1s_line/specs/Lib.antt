@@ -9,3 +9,4 @@ pub mod World
 pub mod Happenings
 pub mod Beacons
 pub mod FramelessNodes
+pub mod Clashes

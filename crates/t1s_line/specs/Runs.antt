@@ -6,7 +6,7 @@ use Rattle.t1s_symbols.specs.declared.Heard.{Heard}
 use Rattle.t1s_symbols.specs.declared.Heard.TheVariants.{Nothing}
 use Rattle.t1s_world.specs.Events.{first_below}
 use Rattle.t1s_world.specs.Lists.{each_with}
-use Rattle.t1s_world.specs.World.{Machine, past, drive_outcomes, hear_outcomes_at}
+use Rattle.t1s_world.specs.World.{past, drive_outcomes, hear_outcomes_at}
 use Rattle.t1s_script.specs.declared.script.Act.{Act}
 use Rattle.t1s_script.specs.declared.script.NodeLine.{NodeLine}
 use Rattle.t1s_line.specs.declared.offers.OfferState.{OfferState}

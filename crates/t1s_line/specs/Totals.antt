@@ -1,7 +1,7 @@
 -- What is counted at a node, part by part of a tick. A count that has reached the greatest number of 64 bits stays there.
 use Rattle.std.specs.Prelude.{ℕ, ◌+◌, ◌-◌, ◌^◌, ◌==◌, ◌&&◌, not, min, Bool, true, false, List, [], ◌∷◌, map, Option, None, Some, if◌then◌else◌}
 use Rattle.t1s_mac.specs.declared.outcome.MacNote.{MacNote}
-use Rattle.t1s_mac.specs.declared.outcome.MacNote.TheVariants.{None as NoNote, Jam, Drop, Sent}
+use Rattle.t1s_mac.specs.declared.outcome.MacNote.TheVariants.{Jam, Drop, Sent}
 use Rattle.t1s_pcs_rx.specs.declared.piece.Kind.{Kind}
 use Rattle.t1s_pcs_rx.specs.declared.piece.Kind.TheVariants.{Good}
 use Rattle.t1s_pcs_rx.specs.Views.{View}

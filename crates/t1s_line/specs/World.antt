@@ -1,5 +1,5 @@
 -- The world of a script, and what happens in its run.
-use Rattle.std.specs.Prelude.{◌≡◌, ℕ, zero, suc, nat_lt, ◌==◌, ◌-◌, ◌+◌, Bool, false, List, [], ◌∷◌, Option, None, Some, is_some, position, find, filter, length, map, get_or, nat_le, ◌&&◌, if◌then◌else◌}
+use Rattle.std.specs.Prelude.{ℕ, zero, suc, nat_lt, ◌==◌, ◌-◌, ◌+◌, Bool, false, List, [], ◌∷◌, Option, None, Some, is_some, position, find, filter, length, map, get_or, nat_le, ◌&&◌, if◌then◌else◌}
 use Rattle.std.specs.List.{list_any}
 use Rattle.std.specs.Option.{option_map}
 use Rattle.rand_pcg.specs.Lcg.{started, increment_of}

@@ -26,6 +26,7 @@ use Rattle.t1s_script.specs.declared.script.Script.{Script}
 use Rattle.t1s_line.specs.Happenings.{IsLeaving, IsArrival}
 use Rattle.t1s_line.specs.World.{driven_in, piece_at}
 use Rattle.t1s_turns.specs.OwnRun.{piece_of}
+use Rattle.t1s_turns.proofs.OwnPieces.{own_pieces}
 use Rattle.t1s_schedule.specs.DriveContents.{HoldsBeacon, HoldsRun}
 use Rattle.t1s_schedule.proofs.NodeRuns.{given}
 use Rattle.t1s_schedule.proofs.SharedState.{FitCable, SharedAt}
@@ -36,7 +37,6 @@ use Rattle.t1s_delivery.proofs.NodeHappenings.{receiver, drove, no_piece_past, n
 use Rattle.t1s_delivery.proofs.OfferedOnce.{offer_from, offer_frame}
 use Rattle.t1s_delivery.proofs.PassingDrives.{late, Passes, one_passes, Hears, hears_drive}
 use Rattle.t1s_delivery.proofs.RunLeavings.{Carried, symbols_of, first_h, end_is, ending_of, carried_from, LeavesPiece, leaves_piece}
-use Rattle.t1s_delivery.proofs.RunPieces.{own_pieces}
 
 no_pieces : (before : List Piece) (piece : Piece) (after : List Piece) → [] ≡ before ++ piece ∷ after → ⊥
 no_pieces [] piece after e = absurd (cc)

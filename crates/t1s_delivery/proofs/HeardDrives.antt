@@ -1,9 +1,9 @@
 -- The receiver of a node over a drive of another node: it is outside of a burst as the drive comes, or as the node starts within it,
 -- and then hears the quarters of the drive, one after another.
-use Rattle.std.proofs.Common.{◌≡◌, ◌≢◌, ℕ, zero, suc, ◌+◌, ◌-◌, ◌<◌, ◌≤◌, inl, inr, Bool, false, List, length, get_or, Option, Some, None, is_some, slice_get, sym, ◌∙◌, ap, arith}
+use Rattle.std.proofs.Common.{◌≡◌, ◌≢◌, ℕ, zero, suc, ◌+◌, ◌-◌, ◌<◌, ◌≤◌, inl, inr, Bool, false, List, [], ◌∷◌, length, get_or, Option, Some, None, is_some, slice_get, sym, ◌∙◌, ap, arith}
 use Rattle.std.specs.List.{flat_map}
 use Rattle.t1s_symbols.specs.declared.Heard.{Heard}
-use Rattle.t1s_symbols.specs.declared.Heard.TheVariants.{Nothing}
+use Rattle.t1s_symbols.specs.declared.Heard.TheVariants.{Nothing, One}
 use Rattle.t1s_symbols.specs.declared.Quarter.{Quarter}
 use Rattle.t1s_symbols.specs.declared.Symbol.{Symbol}
 use Rattle.t1s_pcs_tx.specs.Runs.{all_quarters}
@@ -23,7 +23,16 @@ use Rattle.t1s_schedule.proofs.NodeRuns.{given, drives_from}
 use Rattle.t1s_schedule.proofs.SharedState.{FitCable, SharedAt, IsSpelled, of_nodes}
 use Rattle.t1s_delivery.proofs.NodeHappenings.{receiver, drove, receiver_first, receiver_next, piece_is}
 use Rattle.t1s_delivery.proofs.PassingDrives.{late, Passes, Ordered, one, first, second, ordered, silent, hears_quarter, Hears, hears_drive}
-use Rattle.t1s_delivery.proofs.RunPieces.{heard_quarter}
+
+-- the quarters of symbols, as they are heard
+heard_quarter : (symbols : List Symbol) (m : ℕ) (q : Quarter) → get_or (all_quarters symbols) m None ≡ Some q
+    → slice_get (flat_map quarters symbols) m ≡ Some (One q)
+heard_quarter [] m q e = absurd (cc)
+heard_quarter (x ∷ xs) zero q e = let same : record { sym = x; part = 0 } ≡ q = cc in ap (λ (r : Quarter). Some (One r)) same
+heard_quarter (x ∷ xs) (suc zero) q e = let same : record { sym = x; part = 1 } ≡ q = cc in ap (λ (r : Quarter). Some (One r)) same
+heard_quarter (x ∷ xs) (suc (suc zero)) q e = let same : record { sym = x; part = 2 } ≡ q = cc in ap (λ (r : Quarter). Some (One r)) same
+heard_quarter (x ∷ xs) (suc (suc (suc zero))) q e = let same : record { sym = x; part = 3 } ≡ q = cc in ap (λ (r : Quarter). Some (One r)) same
+heard_quarter (x ∷ xs) (suc (suc (suc (suc m)))) q e = heard_quarter xs m q e
 
 module _ (s : Script) (z : ℕ) (fit : FitCable s z) (j : ℕ) (line : NodeLine) (found : slice_get s.nodes j ≡ Some line)
     (t : ℕ) (ds : List Drive) (shared : SharedAt s z t ds) (d : Drive) (has : Has ds d) (other : d.node ≢ j) where

@@ -1,6 +1,5 @@
 pub mod Members
 pub mod ScriptOffers
-pub mod RunPieces
 pub mod PassingDrives
 pub mod NodeHappenings
 pub mod HeardDrives

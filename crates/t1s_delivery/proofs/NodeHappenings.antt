@@ -1,5 +1,5 @@
 -- What happens at a node of the world, by the node's own ticks: the pieces that its receiver completes, and what leaves it.
-use Rattle.std.proofs.Common.{◌≡◌, ℕ, suc, ◌+◌, ◌-◌, ◌==◌, ◌<◌, ◌≤◌, inl, inr, Bool, true, false, ◌&&◌, List, [], ◌∷◌, length, map, Option, Some, None, is_some, slice_get, refl, sym, ◌∙◌, ap, ap₂, arith, if◌then◌else◌}
+use Rattle.std.proofs.Common.{◌≡◌, ℕ, suc, ◌+◌, ◌-◌, ◌==◌, ◌<◌, ◌≤◌, inl, inr, Bool, true, ◌&&◌, List, [], ◌∷◌, length, map, Some, None, is_some, slice_get, refl, sym, ◌∙◌, ap, ap₂, arith}
 use Rattle.std.proofs.lemmas.Bool.{cases_lt, and_parts}
 use Rattle.std.proofs.lemmas.Bool.Decides.{nat_tests}
 use Rattle.std.proofs.lemmas.List.{length-map, get_or_past}
@@ -8,16 +8,13 @@ use Rattle.t1s_symbols.specs.declared.Heard.{Heard}
 use Rattle.t1s_symbols.specs.declared.Quarter.{Quarter}
 use Rattle.t1s_symbols.specs.declared.Symbol.TheVariants.{H}
 use Rattle.t1s_ring.specs.declared.queued.Queued.{Queued}
-use Rattle.t1s_pcs_tx.specs.State.{Stage, Quiet, Beaconing, Committing, Starting, Sending, ClosingEnd, ClosingCloser, is_first_h, first_h_begins, symbol_of, quarter_in}
+use Rattle.t1s_pcs_tx.specs.State.{Stage, Quiet, Beaconing, Committing, Starting, Sending, ClosingEnd, ClosingCloser, is_first_h, symbol_of, quarter_in}
 use Rattle.t1s_pcs_rx.specs.Receiver.{Receiver, receive_start}
 use Rattle.t1s_pcs_rx.specs.ReceiveTable.{receive_step, receive_event}
 use Rattle.t1s_mac.specs.PickedDraws.{picked_answer, picked_after}
-use Rattle.t1s_mac.specs.State.{number_of}
-use Rattle.t1s_mac.specs.declared.picked_draws.PickedDraws.{PickedDraws}
-use Rattle.t1s_node.specs.Core.{Core, core_drive}
 use Rattle.t1s_node.specs.Node.{NodeState, node_after_offer, node_drive}
 use Rattle.t1s_node.specs.NodeRuns.{node_after_offers, node_at, node_drive_at}
-use Rattle.t1s_node.specs.Runs.{leaves_at, left_at}
+use Rattle.t1s_node.specs.Runs.{leaves_at}
 use Rattle.t1s_world.specs.Schedule.{Drive}
 use Rattle.t1s_world.proofs.ListLemmas.{get_or-map, slice_get-map}
 use Rattle.t1s_world.proofs.WorldLemmas.{hear_outcome_is}
@@ -32,7 +29,9 @@ use Rattle.t1s_line.specs.Track.{track_phases, drive_track, driven_track, hear_t
 use Rattle.t1s_line.specs.World.{machine_of, world, places_of, first_track, first_tracks, drives_at, hearings_at, piece_at, driven_in}
 use Rattle.t1s_line.proofs.HeardTicks.{drive_before, drive_started, hear_before, hear_started}
 use Rattle.t1s_line.proofs.ScriptNodes.{length-world, length-drives, length-hearings}
+use Rattle.t1s_node.proofs.FrameWays.{leaves_is}
 use Rattle.t1s_turns.proofs.DrawBounds.{picked_draws}
+use Rattle.t1s_turns.proofs.LeavingsOnce.{first_of}
 use Rattle.t1s_turns.proofs.OwnRunSteps.{quarter_left}
 use Rattle.t1s_schedule.proofs.NodeRuns.{given, hears_in, start_node, runs_at, offers_before, offers_from, with_node, waits_until}
 use Rattle.t1s_schedule.proofs.NodeTurns.{start_core, ticks, undisturbed, quarter_at, leaving_is}
@@ -148,21 +147,7 @@ h_begins (Starting place) part e =
     let two : place ≡ 2 = grind (arith, nat_tests, parts.0) in
     (record { sym = H; part = part }, rw two refl, refl)
 
-first_of : (b : Bool) (o : Option ℕ) (number : ℕ) → (if b then o else None) ≡ Some number → b ≡ true
-first_of true o number e = refl
-first_of false o number e = absurd (cc)
-
 module _ (s : Script) (z : ℕ) (fit : FitCable s z) (known : (t : ℕ) → (ds : List Drive) × SharedAt s z t ds) (few : s.burst ≤ 255) where
-  -- the core that a tick of a node leaves
-  abbrev left : (i : ℕ) (line : NodeLine) → slice_get s.nodes i ≡ Some line → ℕ → Core PickedDraws
-  left i line found u = left_at picked_answer picked_after (start_core s z fit known few i line found) (ticks s z fit known few i line found) u
-
-  leaves_form : (i : ℕ) (line : NodeLine) (found : slice_get s.nodes i ≡ Some line) (u : ℕ)
-      → (if first_h_begins (left i line found u).tx then number_of (left i line found u).mac else None)
-      ≡ leaves_at picked_answer picked_after (start_core s z fit known few i line found) (ticks s z fit known few i line found) u
-  unfolding core_drive
-  leaves_form i line found u = refl
-
   -- a leaving of a node, which has started then and drives H
   pub record LeavesNode (v i number : ℕ) : Type 0 where
     pub line : NodeLine
@@ -188,7 +173,9 @@ module _ (s : Script) (z : ℕ) (fit : FitCable s z) (known : (t : ℕ) → (ds 
           → LeavesNode v i number
       started line found u now leaving =
           let leaves = leaving_is s z fit known few i line found u number (rw now leaving) in
-          let first = first_of _ _ number (leaves_form i line found u ∙ leaves) in
+          let form = leaves_is picked_answer picked_after picked_draws (start_core s z fit known few i line found)
+          (ticks s z fit known few i line found) u (undisturbed s z fit known few i line found u) u in
+          let first = first_of _ _ number (sym form ∙ leaves) in
           let (q, is, h) = h_begins _ _ first in
           let quarter = quarter_left picked_answer picked_after picked_draws (start_core s z fit known few i line found)
           (ticks s z fit known few i line found) u (undisturbed s z fit known few i line found u) u in

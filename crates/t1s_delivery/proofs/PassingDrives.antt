@@ -1,7 +1,7 @@
 -- The drives of other nodes as they pass a node: one after another, each heard quarter by quarter, and nothing else.
-use Rattle.std.proofs.Common.{◌≡◌, ◌≢◌, ℕ, ◌+◌, ◌-◌, ◌<◌, ◌≤◌, ◌⊎◌, inl, inr, Bool, true, false, nat_lt, ◌==◌, List, [], ◌∷◌, length, get_or, Option, Some, None, is_some, slice_get, refl, sym, ◌∙◌, ap, subst, arith, rules}
+use Rattle.std.proofs.Common.{◌≡◌, ◌≢◌, ℕ, ◌+◌, ◌-◌, ◌<◌, ◌≤◌, ◌⊎◌, inl, inr, Bool, true, false, nat_lt, ◌==◌, List, [], ◌∷◌, length, get_or, Some, None, slice_get, refl, sym, ◌∙◌, ap, subst, arith, rules}
 use Rattle.std.specs.Int.{abs_diff}
-use Rattle.std.proofs.lemmas.Bool.{cases_lt, true≢false}
+use Rattle.std.proofs.lemmas.Bool.{cases_lt, false_from_ne_true}
 use Rattle.std.proofs.lemmas.Bool.Decides.{nat_tests}
 use Rattle.std.proofs.lemmas.List.{length-map}
 use Rattle.t1s_symbols.specs.declared.Heard.{Heard}
@@ -19,21 +19,9 @@ use Rattle.t1s_turns.specs.NodeOverWaves.{cycle_of}
 use Rattle.t1s_turns.specs.ReceiverOverWaves.{HeardOverWaves, nobody, drives, rests, theirs}
 use Rattle.t1s_schedule.proofs.ExactDrives.{Has, has_from, contains_from as has_contained, drives_in, driver_from, each_at}
 use Rattle.t1s_schedule.proofs.NodeRuns.{given}
-use Rattle.t1s_schedule.proofs.ScriptWaves.{way, wave, waves, waves_are, hears_waves}
+use Rattle.t1s_schedule.proofs.ScriptWaves.{none_of, way, wave, waves, waves_are, hears_waves}
 use Rattle.t1s_schedule.proofs.SharedState.{FitCable, cycle_in, cycle_with, SharedAt, of_nodes}
 use Rattle.t1s_delivery.proofs.Members.{Among, among_from, contains_from}
-
-false_of : (b : Bool) → (b ≡ true → ⊥) → b ≡ false
-false_of true not = absurd (not refl)
-false_of false not = refl
-
-none_of : (o : Option Quarter) → is_some o ≡ false → o ≡ None
-none_of None e = refl
-none_of (Some q) e = absurd (true≢false e)
-
-pub some_of : (o : Option Quarter) → is_some o ≡ true → (q : Quarter) × (o ≡ Some q)
-some_of None e = absurd (cc)
-some_of (Some q) e = (q, refl)
 
 module _ (s : Script) (z : ℕ) (fit : FitCable s z) (j : ℕ) (line : NodeLine) (found : slice_get s.nodes j ≡ Some line) where
   -- how late a drive comes there
@@ -117,7 +105,7 @@ module _ (s : Script) (z : ℕ) (fit : FitCable s z) (j : ℕ) (line : NodeLine)
       no_other : (k : ℕ) → (k ≡ d.node → ⊥) → late k ≤ v → driven_in s k (v - late k) ≡ None
       no_other k apart near =
           none_of (driven_in s k (v - late k)) (shared.covers k (v - late k) (omega (arith, before, near))
-          ∙ false_of (drives_in ds k (v - late k)) (λ e.
+          ∙ false_from_ne_true (drives_in ds k (v - late k)) (λ e.
           let (x, has_x, on) = driver_from ds k (v - late k) e in
           let near_x : late x.node ≡ late k = ap (λ (i : ℕ). late i) on.node in
           let passes : Passes x v = record { from = omega (arith, on.from, near, near_x); till = omega (arith, on.till, near, near_x) } in

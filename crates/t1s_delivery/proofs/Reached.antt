@@ -18,6 +18,7 @@ use Rattle.t1s_script.specs.declared.script.Script.{Script}
 use Rattle.t1s_line.specs.Happenings.{IsArrival}
 use Rattle.t1s_line.specs.World.{piece_at}
 use Rattle.t1s_turns.specs.OwnRun.{piece_of, run_symbols}
+use Rattle.t1s_turns.proofs.OwnPieces.{own_pieces}
 use Rattle.t1s_schedule.specs.DriveContents.{HoldsRun}
 use Rattle.t1s_schedule.proofs.ExactDrives.{Has}
 use Rattle.t1s_schedule.proofs.NodeRuns.{given}
@@ -28,7 +29,6 @@ use Rattle.t1s_delivery.proofs.NodeHappenings.{receiver}
 use Rattle.t1s_delivery.proofs.OfferedOnce.{offer_frame}
 use Rattle.t1s_delivery.proofs.PassingDrives.{late}
 use Rattle.t1s_delivery.proofs.RunLeavings.{Carried, symbols_of, first_h, end_is, pieces_are, leaves_piece}
-use Rattle.t1s_delivery.proofs.RunPieces.{own_pieces}
 
 module _ (s : Script) (script : IsScript s) (z : ℕ) (fit : FitCable s z) (known : (t : ℕ) → (ds : List Drive) × SharedAt s z t ds)
     (few : s.burst ≤ 255)

@@ -108,11 +108,13 @@ module _ (s : Script) (z : ℕ) (fit : FitCable s z) (j : ℕ) (line : NodeLine)
         (told_by (cycle_of (node_set_of s line)) line.start (line.start + u) T (waves ds) within (set_waves s z fit j line found T ds shared))
         (λ v before. hears_waves s z fit j line found T ds shared v (omega (arith, before, within))) u refl
 
-    active_next : (u : ℕ) → active_at picked_answer picked_after start told u ≡ is_active (left_at picked_answer picked_after start told u).control.state
+    active_next : (u : ℕ)
+        → active_at picked_answer picked_after start told u ≡ is_active (left_at picked_answer picked_after start told u).control.state
     unfolding core_drive
     active_next u = refl
 
-    kept_next : (u : ℕ) → left_at picked_answer picked_after start told u ≡ (node_at (start_node s j line found) (given s j line found) (suc u)).core
+    kept_next : (u : ℕ)
+        → left_at picked_answer picked_after start told u ≡ (node_at (start_node s j line found) (given s j line found) (suc u)).core
     unfolding core_at
     kept_next u = sym (core_same (start_node s j line found) (given s j line found) (suc u))
 

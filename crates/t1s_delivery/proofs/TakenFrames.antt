@@ -10,10 +10,10 @@ use Rattle.t1s_mac.specs.PickedDraws.{picked_answer, picked_after}
 use Rattle.t1s_mac.specs.State.{MacState, with_queue}
 use Rattle.t1s_mac.specs.declared.picked_draws.PickedDraws.{PickedDraws}
 use Rattle.t1s_node.specs.Core.{Core, core_after_offer}
-use Rattle.t1s_node.specs.Node.{NodeState, node_after_offer}
+use Rattle.t1s_node.specs.Node.{NodeState}
 use Rattle.t1s_node.specs.NodeRuns.{node_after_offers, node_at, core_ticks}
 use Rattle.t1s_node.specs.Runs.{core_after_offers, core_at}
-use Rattle.t1s_node.proofs.NodeCore.{core_same}
+use Rattle.t1s_node.proofs.NodeCore.{offers_core, core_same}
 use Rattle.t1s_script.specs.declared.script.NodeLine.{NodeLine}
 use Rattle.t1s_script.specs.declared.script.Script.{Script}
 use Rattle.t1s_line.specs.declared.track.Track.{Track}
@@ -62,10 +62,6 @@ module _ {D : Type 0} where
       offers_keep (core_after_offer c f) after q f
       (subst (λ (k : ℕ). slice_get (core_after_offer c f).mac.queue.frames k ≡ Some f) (sym ahead) (offer_takes c f (omega (arith, ahead, room))))
   queued_after c (b ∷ bs) f after q ahead room = queued_after (core_after_offer c b) bs f after q ahead room
-
-offers_core : (n : NodeState) (qs : List Queued) → (node_after_offers n qs).core ≡ core_after_offers n.core qs
-offers_core n [] = refl
-offers_core n (q ∷ qs) = offers_core (node_after_offer n q) qs
 
 -- ---- in the queue of a node
 

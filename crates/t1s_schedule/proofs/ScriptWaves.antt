@@ -35,7 +35,7 @@ same_test x y = elim (cases_eq x y) [
       a ∙ sym b
 ]
 
-none_of : (o : Option Quarter) → is_some o ≡ false → o ≡ None
+pub none_of : (o : Option Quarter) → is_some o ≡ false → o ≡ None
 none_of None e = refl
 none_of (Some q) e = absurd (cc)
 

@@ -15,7 +15,7 @@ use Rattle.t1s_world.specs.World.{Past, past, at_depth, after_drive, after_hear,
 use Rattle.t1s_world.proofs.ListLemmas.{position-map}
 use Rattle.t1s_world.proofs.WorldLemmas.{past-zero}
 use Rattle.t1s_cable.specs.Stands.{Stands as CableStands, no_puts}
-use Rattle.t1s_cable.proofs.Histories.{at_depth_same}
+use Rattle.t1s_cable.specs.State.{CableState}
 use Rattle.t1s_script.specs.declared.script.Act.{Act}
 use Rattle.t1s_script.specs.declared.script.NodeLine.{NodeLine}
 use Rattle.t1s_line.specs.declared.offers.OfferState.TheVariants.{Unknown}
@@ -61,20 +61,23 @@ module _ {N : Type 0} (p : NodePhases N) where
   abbrev pub Awaits : EngineState N → Type 0
   Awaits g = AwaitActs p g.tick g.nodes g.totals g.upcoming
 
-  -- what one tick leaves of an engine, field by field. The cable's history has one row more
+  -- what one tick leaves of an engine, field by field. The nodes hear a cable whose history has the row of the tick, and the cable
+  -- that is left has the empty row of the next one before it
   pub record TickStep (g h : EngineState N) : Type 0 where
+    pub driven_on : CableState
     pub tick : h.tick ≡ g.tick + 1
     pub end : h.end ≡ g.end
     pub places : h.cable.places ≡ g.cable.places
     pub coming : AreComing g.tick g.upcoming → AreComing (g.tick + 1) h.upcoming
     pub offers : AreComing g.tick g.upcoming → (u : ℕ) → g.tick < u → offers_at h.upcoming u ≡ offers_at g.upcoming u
     pub noise : AreComing g.tick g.upcoming → (u : ℕ) → g.tick ≤ u → (is_noisy h.upcoming u || ltb u h.noise_until) ≡ (is_noisy g.upcoming u || ltb u g.noise_until)
-    pub cable : Awaits g → (rows : List (List (Option Quarter))) → CableStands rows g.cable → CableStands (row_of (two_phases p) g.tick (given g) ∷ rows) h.cable
-    pub nodes : Awaits g → (rows : List (List (Option Quarter))) → CableStands rows h.cable → h.nodes ≡ after_hear (two_phases p) g.tick (brought g h.noise_until rows) 0 (after_drive (two_phases p) g.tick (given g))
+    pub drives_on : Awaits g → (past : List (List (Option Quarter))) → CableStands (no_puts g.cable.places ∷ past) g.cable → CableStands (row_of (two_phases p) g.tick (given g) ∷ past) driven_on
+    pub turns : (rows : List (List (Option Quarter))) → CableStands rows driven_on → CableStands (no_puts g.cable.places ∷ rows) h.cable
+    pub nodes : Awaits g → (rows : List (List (Option Quarter))) → CableStands rows driven_on → h.nodes ≡ after_hear (two_phases p) g.tick (brought g h.noise_until rows) 0 (after_drive (two_phases p) g.tick (given g))
     pub settled : Awaits g → h.settled ≡ settled_after g.settled g.tick (are_ok (drive_outcomes (two_phases p) g.tick (given g)))
-    pub totals : Awaits g → (rows : List (List (Option Quarter))) → CableStands rows h.cable → h.totals ≡ each_with after_hearing (each_with after_driving (after_refusals g.totals (told g)) (drive_outcomes (two_phases p) g.tick (given g))) (hear_outcomes (two_phases p) g.tick (brought g h.noise_until rows) 0 (after_drive (two_phases p) g.tick (given g)))
+    pub totals : Awaits g → (rows : List (List (Option Quarter))) → CableStands rows driven_on → h.totals ≡ each_with after_hearing (each_with after_driving (after_refusals g.totals (told g)) (drive_outcomes (two_phases p) g.tick (given g))) (hear_outcomes (two_phases p) g.tick (brought g h.noise_until rows) 0 (after_drive (two_phases p) g.tick (given g)))
     pub states : Awaits g → (k : ℕ) → get_or h.states k Unknown ≡ after_leaves g.tick k (after_records k (get_or g.states k Unknown) (told g)) (drive_outcomes (two_phases p) g.tick (given g))
-    pub heard : Awaits g → (rows : List (List (Option Quarter))) → CableStands rows h.cable → h.heard ≡ map heard_tick (hear_outcomes (two_phases p) g.tick (brought g h.noise_until rows) 0 (after_drive (two_phases p) g.tick (given g)))
+    pub heard : Awaits g → (rows : List (List (Option Quarter))) → CableStands rows driven_on → h.heard ≡ map heard_tick (hear_outcomes (two_phases p) g.tick (brought g h.noise_until rows) 0 (after_drive (two_phases p) g.tick (given g)))
 
   module _ (acts : List Act) (lines : List NodeLine) (first : List N) (end : ℕ) where
     -- a new engine plays the run at tick 0
@@ -91,7 +94,7 @@ module _ {N : Type 0} (p : NodePhases N) where
           offers = λ u le. rw upcoming refl;
           noise = λ u le. rw (upcoming, quiet) (no_noise_yet (is_noisy acts u) u);
           nodes = nodes ∙ sym (ap (λ (q : Past N). q.nodes) start);
-          cable = subst (λ (q : Past N). CableStands (q.rows ++ no_puts (places_in lines) ∷ []) g.cable) (sym start) cable;
+          cable = subst (λ (q : Past N). CableStands (no_puts (places_in lines) ∷ q.rows) g.cable) (sym start) cable;
           settled = rw (settled-zero p acts lines first) settled;
           totals = rw (totals-zero p acts lines first) totals;
           states = λ k. states k ∙ sym (state-zero p acts lines first k);
@@ -143,19 +146,19 @@ module _ {N : Type 0} (p : NodePhases N) where
             (rw quiet at here) ∙ lasts
 
         abbrev pub history : List (List (Option Quarter))
-        history = rows_on p acts lines first plays.numbered t ++ no_puts (places_in lines) ∷ []
+        history = rows_on p acts lines first plays.numbered t
 
-        pub keeps : CableStands history h.cable
+        pub keeps : CableStands history ticked.driven_on
         keeps =
-            let old : List (List (Option Quarter)) = (past (machine_with p acts) (places_in lines) first t).rows ++ no_puts (places_in lines) ∷ [] in
-            subst (λ (row : List (Option Quarter)). CableStands (row ∷ old) h.cable) row_is (ticked.cable awaits old plays.cable)
+            let old : List (List (Option Quarter)) = (past (machine_with p acts) (places_in lines) first t).rows in
+            subst (λ (row : List (Option Quarter)). CableStands (row ∷ old) ticked.driven_on) row_is
+            (ticked.drives_on awaits old (subst (λ (places : List ℕ). CableStands (no_puts places ∷ old) g.cable) (sym plays.places) plays.cable))
 
         brought_is : brought g h.noise_until history ≡ hears p acts lines first plays.numbered t
         brought_is =
             let hear : Bool → (ℕ → ℕ → Option Quarter) → List ℕ → ℕ → Heard = λ noisy at places j. under_noise noisy (heard at places j) in
             ap (λ (noisy : Bool). hear noisy (at_depth history) g.cable.places) noisy_is
-            ∙ (ap (λ (at : ℕ → ℕ → Option Quarter). hear (is_noisy acts t) at g.cable.places) (at_depth_same (places_in lines) (rows_on p acts lines first plays.numbered t))
-            ∙ ap (λ (places : List ℕ). hear (is_noisy acts t) (at_depth (rows_on p acts lines first plays.numbered t)) places) plays.places)
+            ∙ ap (λ (places : List ℕ). hear (is_noisy acts t) (at_depth history) places) plays.places
 
         hearings_is : hear_outcomes (two_phases p) g.tick (brought g h.noise_until history) 0 (after_drive (two_phases p) g.tick (given g)) ≡ hearings_in p acts lines first t
         hearings_is =
@@ -183,7 +186,9 @@ module _ {N : Type 0} (p : NodePhases N) where
               offers = λ u le. ticked.offers awaits.coming u (omega (arith, plays.tick, le)) ∙ plays.offers u (omega (arith, le));
               noise = λ u le. ticked.noise awaits.coming u (omega (arith, plays.tick, le)) ∙ plays.noise u (omega (arith, le));
               nodes = rw add-one (ticked.nodes awaits history keeps ∙ nodes_is);
-              cable = rw add-one (subst (λ (rows : List (List (Option Quarter))). CableStands (rows ++ no_puts (places_in lines) ∷ []) h.cable) (sym (rows_are p acts lines first plays.numbered t)) keeps);
+              cable =
+                  rw add-one (subst (λ (rows : List (List (Option Quarter))). CableStands (no_puts (places_in lines) ∷ rows) h.cable) (sym (rows_are p acts lines first plays.numbered t))
+                  (subst (λ (places : List ℕ). CableStands (no_puts places ∷ history) h.cable) plays.places (ticked.turns history keeps)));
               settled = ticked.settled awaits ∙ rw (drives_is, plays.settled, plays.tick) (sym (settled-more p acts lines first t));
               totals = ticked.totals awaits history keeps ∙ rw (hearings_is, drives_is, told_is, plays.totals) (sym (totals-more p acts lines first t));
               states = λ k. ticked.states awaits k ∙ rw (plays.states k, drives_is, told_is, plays.tick) (sym (state-more p acts lines first t k));
@@ -196,7 +201,7 @@ module _ {N : Type 0} (p : NodePhases N) where
 
         -- and the watch is told what happens in the tick: of the offers, of the drive phase and of the hear phase
         module _ {W : Type 0} (sees : W → EventRecord → W → Type 0) (w v : W) where
-          pub tick_events : ((rows : List (List (Option Quarter))) → CableStands rows h.cable → SeesEvents sees w (map offer_event (told g) ++ (drive_events_of (drive_outcomes (two_phases p) g.tick (given g)) ++ hear_events_of (hear_outcomes (two_phases p) g.tick (brought g h.noise_until rows) 0 (after_drive (two_phases p) g.tick (given g))))) v) → SeesEvents sees w (events_in p acts lines first t) v
+          pub tick_events : ((rows : List (List (Option Quarter))) → CableStands rows ticked.driven_on → SeesEvents sees w (map offer_event (told g) ++ (drive_events_of (drive_outcomes (two_phases p) g.tick (given g)) ++ hear_events_of (hear_outcomes (two_phases p) g.tick (brought g h.noise_until rows) 0 (after_drive (two_phases p) g.tick (given g))))) v) → SeesEvents sees w (events_in p acts lines first t) v
           tick_events events =
               subst (λ (es : List EventRecord). SeesEvents sees w es v) (sym events_are)
               (subst (λ (rs : List OfferRecord). SeesEvents sees w (map offer_event rs ++ (drive_events_of (drives_in p acts lines first t) ++ hear_events_of (hearings_in p acts lines first t))) v) told_is

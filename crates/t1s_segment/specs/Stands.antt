@@ -1,5 +1,5 @@
 -- An engine plays the run of its nodes, and a segment stands for a script whose run has reached a tick.
-use Rattle.std.specs.Prelude.{◌≡◌, ℕ, ◌≤◌, ◌-◌, ◌||◌, nat_lt, List, [], ◌∷◌, ◌++◌, get_or}
+use Rattle.std.specs.Prelude.{◌≡◌, ℕ, ◌≤◌, ◌-◌, ◌||◌, nat_lt, List, ◌∷◌, get_or}
 use Rattle.t1s_world.specs.World.{past}
 use Rattle.t1s_cable.specs.Stands.{Stands as CableStands, no_puts}
 use Rattle.t1s_script.specs.Script.{IsScript}
@@ -18,7 +18,7 @@ use Rattle.t1s_segment.specs.Upcoming.{AreComing}
 
 -- What the engine keeps is what the run of the nodes of these lines, as they are at first, has among these acts at tick t.
 -- The acts that it still has to come are those from tick t on, but for the noises that began before. Its cable stands for
--- the rows of that run, and for a tick before the first, in which nothing was put.
+-- the rows of that run, and for tick t, in which nothing is put yet.
 pub record Plays {N : Type 0} (p : NodePhases N) (acts : List Act) (lines : List NodeLine) (first : List N) (end t : ℕ) (g : EngineState N) : Type 0 where
   pub in_time : t ≤ end
   pub tick : g.tick ≡ t
@@ -29,7 +29,7 @@ pub record Plays {N : Type 0} (p : NodePhases N) (acts : List Act) (lines : List
   pub offers : (u : ℕ) → t ≤ u → offers_at g.upcoming u ≡ offers_at acts u
   pub noise : (u : ℕ) → t ≤ u → (is_noisy g.upcoming u || nat_lt u g.noise_until) ≡ is_noisy acts u
   pub nodes : g.nodes ≡ nodes_in p acts lines first t
-  pub cable : CableStands ((past (machine_with p acts) (places_in lines) first t).rows ++ no_puts (places_in lines) ∷ []) g.cable
+  pub cable : CableStands (no_puts (places_in lines) ∷ (past (machine_with p acts) (places_in lines) first t).rows) g.cable
   pub settled : g.settled ≡ settled_in p acts lines first t
   pub totals : g.totals ≡ totals_in p acts lines first t
   pub states : (number : ℕ) → get_or g.states number Unknown ≡ state_in p acts lines first number t

@@ -35,6 +35,7 @@ pub struct Engine<N> {
 impl<N> Model for Engine<N> {
     ghost use Rattle.std.specs.Prelude.{◌≡◌, ◌≤◌, length};
     ghost use Rattle.t1s_base.specs.Limits.{most_nodes};
+    ghost use Rattle.t1s_cable.specs.Stands.{no_puts};
     ghost use Rattle.t1s_segment.specs.State.{EngineState, AreHeard};
 
     ghost Value = { EngineState N };
@@ -55,6 +56,7 @@ impl<N> Model for Engine<N> {
     ghost invariant = { λ g. record {
       in_time : g.tick ≤ g.end;
       few : length g.cable.places ≤ most_nodes;
+      free : g.cable.row ≡ no_puts g.cable.places;
       nodes_len : length g.nodes.items ≡ length g.cable.places;
       totals_len : length g.totals.items ≡ length g.cable.places;
       heard_len : length g.heard.items ≡ length g.cable.places;
@@ -161,7 +163,6 @@ impl<N: NodeMachine + Drop> Engine<N> {
             tick,
             watch,
         );
-        self.cable.turn();
         let ok = drive_all(
             self.nodes.as_mut_slice(),
             self.totals.as_mut_slice(),
@@ -180,6 +181,7 @@ impl<N: NodeMachine + Drop> Engine<N> {
             tick,
             watch,
         );
+        self.cable.turn();
         self.tick = tick + 1;
     }
 

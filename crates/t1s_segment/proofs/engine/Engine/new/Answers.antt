@@ -18,6 +18,7 @@ invariant_of-result g c =
     record {
       in_time = omega arith;
       few = omega (arith, size, c.requires.few);
+      free = rw c.in_ok-cable.ensures.places c.in_ok-cable.ensures.row;
       nodes_len = omega (arith, size, as_many);
       totals_len = rw (totals, size) (length-map lines _);
       heard_len = rw (heard, size) (length-map lines _);

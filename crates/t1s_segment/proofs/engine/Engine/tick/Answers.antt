@@ -34,7 +34,7 @@ returns g c =
       upcoming = offers.new.upcoming;
       noise_until = offers.result;
       nodes = hears.new.nodes;
-      cable = drives.new.cable;
+      cable = c.turn.new.self;
       totals = hears.new.totals;
       states = drives.new.states;
       heard = hears.new.last;
@@ -47,17 +47,19 @@ returns g c =
     let nodes_began = c.as_mut_slice.ensures.value in
     let totals_began = c.as_mut_slice-2.ensures.value in
     let states_began = c.as_mut_slice-3.ensures.value in
-    let kept = drives.ensures.places ∙ c.turn.ensures.places in
+    let kept = drives.ensures.places in
     let ticked : TickStep p before after = record {
       tick = refl;
       end = refl;
-      places = kept;
+      places = c.turn.ensures.places ∙ kept;
       coming = offers.ensures.coming;
       offers = offers.ensures.offers;
       noise = offers.ensures.noise;
-      cable = λ all rows stands.
+      driven_on = drives.new.cable;
+      drives_on = λ all rows stands.
           let given = rw (nodes_began) at (offers.ensures.nodes (rw (nodes_began, totals_began) all)) in
-          rw (nodes_given, given) at (drives.ensures.put rows (rw (← c.turn.ensures.places) at (c.turn.ensures.stands rows stands)));
+          rw (nodes_given, given) at (drives.ensures.put rows stands);
+      turns = λ rows stands. rw kept at (c.turn.ensures.stands rows stands);
       nodes = λ all rows stands.
           let given = rw (nodes_began) at (offers.ensures.nodes (rw (nodes_began, totals_began) all)) in
           rw (nodes_driven, drives.ensures.nodes, nodes_given, given, kept) at (hears.ensures.nodes rows stands);

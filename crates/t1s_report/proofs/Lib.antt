@@ -1,5 +1,7 @@
 pub mod SinkGrowth
 pub mod WriterSteps
+mod PcapReadings
+pub mod PcapSteps
 mod Ascending
 mod NodeTotals
 mod OfferWaits

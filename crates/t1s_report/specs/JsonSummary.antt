@@ -38,6 +38,7 @@ wait_value Full = string (codes "full")
 wait_value Open = string (codes "none")
 wait_value (Left ticks) = count_value ticks
 
+-- the same of an offer with its number
 abbrev pub offer_value : ℕ × Wait → Data
 offer_value w = wait_value w.1
 

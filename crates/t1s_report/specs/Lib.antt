@@ -9,5 +9,7 @@ pub mod OffenceLines
 pub mod ItemLines
 pub mod Report
 pub mod HeardText
+pub mod PcapText
 pub mod DecodedText
 pub mod WriterStep
+pub mod PcapWriterStep

@@ -27,7 +27,7 @@ fn hex_digits(out: &mut Line, octets: &[u8])
 }
 
 /// The octets before the frame check sequence.
-fn before_check(frame: &[u8]) -> &[u8]
+pub(crate) fn before_check(frame: &[u8]) -> &[u8]
     requires { length frame.now ≤ 1522 }
     ensures value { result.now ≡ before_check frame.now }
     ensures len { length result.now ≤ 1518 }

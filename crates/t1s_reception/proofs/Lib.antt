@@ -1,0 +1,15 @@
+pub mod LostReadings
+pub mod SymbolTicks
+pub mod TakenSymbols
+pub mod RowReceptions
+pub mod CutReceptions
+pub mod NodeReceivers
+pub mod HeardPieces
+pub mod HeardAlone
+pub mod HeardRanges
+pub mod CaptureOfNode
+pub mod ItemOctets
+pub mod HandedOut
+pub mod OnlyShown
+pub mod NodeLeavings
+pub mod LeavingHeard

@@ -1,0 +1,11 @@
+pub mod Cuts
+pub mod Parts
+pub mod Writes
+pub mod Pieces
+pub mod Draws
+pub mod DrawCalls
+pub mod Contents
+pub mod ShapeContents
+pub mod Documents
+pub mod Bars
+pub mod PictureBars

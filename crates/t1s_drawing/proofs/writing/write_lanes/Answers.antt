@@ -1,0 +1,14 @@
+use Rattle.t1s_drawing.specs.Picture.{each_text, head_text, piece_text}
+use Rattle.t1s_drawing.specs.Progress.{at_start}
+use Rattle.t1s_drawing.specs.declared.writing.Piece.TheVariants.{Lanes}
+use Rattle.t1s_drawing.proofs.Writes.{wrote_part, wrote_then}
+use Rattle.t1s_drawing.proofs.writing.write_lanes.Goals as goal
+
+pub returns-in-Ok : goal.returns-in-Ok
+returns-in-Ok g c =
+    wrote_then g.K.Sink.written g.K.Sink.faults c.args.sink.now c.write_head.new.sink c.write_each.new.sink (head_text c.args.w.now) (each_text (piece_text Lanes c.args.w.now at_start) c.args.w.now.nodes) c.in-Ok.field-0 c.write_each.result
+    c.in-Ok.ensures (rw c.requires at c.write_each.ensures)
+
+pub returns-in-Err : goal.returns-in-Err
+returns-in-Err g c =
+    wrote_part g.K.Sink.written g.K.Sink.faults c.args.sink.now c.write_head.new.sink (head_text c.args.w.now) (each_text (piece_text Lanes c.args.w.now at_start) c.args.w.now.nodes) c.in-Err.failed c.in-Err.failed c.in-Err.ensures

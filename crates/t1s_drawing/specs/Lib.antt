@@ -1,0 +1,14 @@
+pub mod Lines
+pub mod ReadLines
+pub mod Shapes
+pub mod Progress
+pub mod Elements
+pub mod ShapeTexts
+pub mod Calls
+pub mod Picture
+pub mod Drawn
+pub mod DrawSteps
+pub mod DrawCall
+pub mod Xml
+pub mod BarLaws
+pub mod PictureBars

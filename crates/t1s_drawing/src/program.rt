@@ -1,0 +1,123 @@
+// All that a call does.
+ghost use Rattle.std.specs.Prelude.{◌≡◌, ◌≤◌, ◌⊎◌, ◌↔◌, ℕ, List, [], ◌++◌, true, false, Some, None};
+ghost use Rattle.t1s_base.specs.Causes.{FaultCountRose};
+ghost use Rattle.t1s_base.specs.Octets.{Gives, Grows, GrowsByPrefix};
+ghost use Rattle.t1s_drawing.specs.Calls.{HasFaultCause};
+ghost use Rattle.t1s_drawing.specs.Drawn.{Drawn, status_of};
+ghost use Rattle.t1s_drawing.specs.DrawCall.{AreWords, DrawCall, window_in, window_of, word_octets};
+ghost use Rattle.t1s_drawing.specs.Picture.{picture};
+ghost use Rattle.t1s_drawing.specs.Xml.{IsDocument};
+ghost use Rattle.t1s_drawing.specs.declared.window.Window.{Window};
+
+use crate::drawing::Drawing;
+use crate::parsing::small_number;
+use crate::progress::MOST_LANES;
+use crate::status::Status;
+use crate::window::Window;
+use crate::writing::write_opening;
+use t1s_base::{Failed, Sink, Source};
+
+/// How many octets are read at once.
+const PIECE: usize = 4096;
+
+/// The window of these numbers, where it has a tick and a node, and no more than 32 nodes.
+fn window_of(from: Option<u32>, until: Option<u32>, nodes: Option<u32>) -> Option<Window>
+    ensures { result ≡ window_of from until nodes }
+{
+    match (from, until, nodes) {
+        (Some(from), Some(until), Some(nodes)) => {
+            if from < until && 0 < nodes && nodes <= MOST_LANES {
+                Some(Window { from, until, nodes })
+            } else {
+                None
+            }
+        }
+        _ => None,
+    }
+}
+
+/// The window that the words name.
+fn window_in(words: &[String]) -> Option<Window>
+    ensures { result ≡ window_in (word_octets words.now) }
+{
+    match words {
+        [word, from, until, nodes] if word.as_bytes() == b"picture".as_slice() => window_of(
+            small_number(from.as_bytes()),
+            small_number(until.as_bytes()),
+            small_number(nodes.as_bytes()),
+        ),
+        _ => None,
+    }
+}
+
+/// Reads a report in pieces of at most 4096 octets, and writes what its lines give.
+fn read_report<S: Source, K: Sink>(
+    w: &Window,
+    drawing: Drawing,
+    source: &mut S,
+    sink: &mut K,
+) -> Status
+    requires { drawing.number ≤ 1073741825 }
+    ensures { (first : K) → Drawn K.written K.faults w.now [] drawing first sink.old → DrawCall S.left S.faults K.written K.faults K.finished w.now source.old source.new first sink.new result }
+{
+    let mut drawing = drawing;
+    let mut piece = [0u8; PIECE];
+    loop {
+        match source.read(&mut piece) {
+            Ok(0) => return drawing.end(w, sink),
+            Ok(count) => match drawing.take_piece(w, &piece[..count], sink) {
+                Ok(()) => {}
+                Err(status) => return status,
+            },
+            Err(Failed) => return Status::ReadFault,
+        }
+    }
+}
+
+/// Reads a report and writes its picture.
+fn draw_window<S: Source, K: Sink>(w: &Window, source: &mut S, sink: &mut K) -> Status
+    ensures { DrawCall S.left S.faults K.written K.faults K.finished w.now source.old source.new sink.old sink.new result }
+{
+    let drawing = Drawing::new();
+    match write_opening(w, &drawing.progress, sink) {
+        Ok(()) => read_report(w, drawing, source, sink),
+        Err(Failed) => Status::WriteFault,
+    }
+}
+
+/// Does all that the program does: takes the words of the command line, reads a report and writes its picture.
+///
+/// The words are `picture FROM UNTIL NODES`: the first tick that is drawn, the tick after the last one, and how many nodes
+/// the segment has, numbered from 0. The report is that of the command `run`, and is read in pieces of at most 4096
+/// octets. The picture is an SVG, written in one pass: the lanes, the ticks and the legend, then what each line of the
+/// report gives, by one `write` call a line, and at its end the bars of what is still driven. No memory is taken.
+///
+/// The answers: `Usage` where the words are no others, and nothing was read or written. `ReadFault` and `WriteFault` where the
+/// source or the sink failed, at once. `Refused` where the input is no report: the last line says which line isn't, by its
+/// number from 1, and why. `Done` in all other cases.
+pub fn draw<S: Source, K: Sink>(words: &[String], source: &mut S, sink: &mut K) -> Status
+    ensures usage { (result ≡ Status.Usage) ↔ (window_in (word_octets words.now) ≡ None) }
+    ensures usage_leaves_both { result ≡ Status.Usage → (source.new ≡ source.old) × (sink.new ≡ sink.old) }
+    ensures read_fault { HasFaultCause (S.faults source.old) (S.faults source.new) Status.ReadFault result }
+    ensures write_fault { HasFaultCause (K.faults sink.old) (K.faults sink.new) Status.WriteFault result }
+    ensures finishes { (result ≡ Status.Done) ⊎ (result ≡ Status.Refused) → K.finished sink.new ≡ true }
+    ensures done { (w : Window) (octets : List ℕ) → AreWords words.now w → S.left source.old ≡ Some octets → result ≡ Status.Done →
+        ((picture w octets).refused ≡ false) × Grows (K.written sink.old) (K.written sink.new) (picture w octets).text × (S.left source.new ≡ Some []) }
+    // It is an XML document.
+    ensures document { (w : Window) (octets : List ℕ) → AreWords words.now w → S.left source.old ≡ Some octets → result ≡ Status.Done → IsDocument (picture w octets).text }
+    ensures refused { (w : Window) (octets : List ℕ) → AreWords words.now w → S.left source.old ≡ Some octets → result ≡ Status.Refused →
+        ((picture w octets).refused ≡ true) × Grows (K.written sink.old) (K.written sink.new) (picture w octets).text }
+    ensures write_fault_text { (w : Window) (octets : List ℕ) → AreWords words.now w → S.left source.old ≡ Some octets → result ≡ Status.WriteFault →
+        GrowsByPrefix (K.written sink.old) (K.written sink.new) (picture w octets).text }
+    ensures read_fault_text { (w : Window) → AreWords words.now w → result ≡ Status.ReadFault →
+        (taken : List ℕ) × Gives (S.left source.old) (S.left source.new) taken ×
+        ((more : List ℕ) → GrowsByPrefix (K.written sink.old) (K.written sink.new) (picture w (taken ++ more)).text) }
+    ensures completes { (w : Window) (octets : List ℕ) → AreWords words.now w → S.left source.old ≡ Some octets →
+        ¬ (FaultCountRose (S.faults source.old) (S.faults source.new)) → ¬ (FaultCountRose (K.faults sink.old) (K.faults sink.new)) →
+        result ≡ status_of (picture w octets) }
+{
+    match window_in(words) {
+        Some(w) => draw_window(&w, source, sink),
+        None => Status::Usage,
+    }
+}

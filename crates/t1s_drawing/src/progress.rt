@@ -1,0 +1,159 @@
+// How far a report has come.
+ghost use Rattle.std.specs.Prelude.{◌≡◌, ◌<◌, Ok, Err, IfOk, IfErr, None, get_or};
+ghost use Rattle.t1s_drawing.specs.Progress.{at_start, drive_from, turned, event_step, step, is_lane, told_bar};
+
+use crate::report::{Event, ReportLine};
+use crate::shapes::{Drive, Part, Shape, bar, mark, turn_of};
+use crate::window::Window;
+
+/// How many nodes a picture has at most.
+pub(crate) const MOST_LANES: u32 = 32;
+
+/// Why a line is none of a report, or the input is no report.
+#[derive(Clone, Copy)]
+pub enum Reason {
+    /// The line has more than 4096 octets.
+    TooLong,
+    /// It is none of the lines of a report.
+    Line,
+    /// Its tick is below one before it, or it belongs to the events and stands in the summary, or the other way round.
+    Order,
+    /// The picture has no such node.
+    Node,
+    /// There are more than 2^30 lines.
+    TooMany,
+    /// The input ends within a line or before the summary.
+    End,
+}
+
+/// The shapes that a line gives.
+#[derive(Clone, Copy)]
+pub(crate) struct Told {
+    /// What its node drove up to its tick.
+    pub(crate) bar: Option<Shape>,
+    /// What it tells by itself.
+    pub(crate) mark: Option<Shape>,
+}
+
+/// What each node drives, the tick of the latest event, and whether the summary has begun.
+#[derive(Drop)]
+pub(crate) struct Progress {
+    pub(crate) driven: [Option<Drive>; MOST_LANES as usize],
+    pub(crate) tick: u32,
+    pub(crate) in_summary: bool,
+}
+
+/// What is driven from this tick on.
+fn drive_from(tick: u32, part: Option<Part>) -> Option<Drive>
+    ensures { result ≡ drive_from tick part }
+{
+    match part {
+        Some(part) => Some(Drive { part, since: tick }),
+        None => None,
+    }
+}
+
+/// Whether the picture has a lane for the node.
+fn is_lane(w: &Window, node: u32) -> bool
+    ensures value { result ≡ is_lane w.now node }
+{
+    node < w.nodes && node < MOST_LANES
+}
+
+impl Progress {
+    /// Nothing was read, and nobody drives.
+    pub(crate) fn new() -> Progress
+        ensures { result ≡ at_start }
+    {
+        Progress {
+            driven: [None; MOST_LANES as usize],
+            tick: 0,
+            in_summary: false,
+        }
+    }
+
+    /// What the node drives.
+    pub(crate) fn drive_of(&self, node: u32) -> Option<Drive>
+        ensures { result ≡ get_or self.now.driven node None }
+    {
+        match self.driven.get(node as usize) {
+            Some(driven) => *driven,
+            None => None,
+        }
+    }
+
+    /// Puts what the node drives from now on in the place of what it drove, whose bar ends.
+    fn turn(&mut self, w: &Window, event: Event) -> Option<Shape>
+        requires { event.node < 32 }
+        ensures bar { result ≡ told_bar w.now self.old event }
+        ensures after { self.new ≡ turned self.old event }
+    {
+        match turn_of(event.what) {
+            Some(part) => {
+                let before = self.drive_of(event.node);
+                self.driven[event.node as usize] = drive_from(event.tick, part);
+                bar(w, event.node, before, event.tick)
+            }
+            None => None,
+        }
+    }
+
+    /// Takes an event.
+    fn event(&mut self, w: &Window, event: Event) -> Result<Told, Reason>
+        ensures ok { IfOk result (λ told. event_step w.now self.old event ≡ Ok (self.new, told)) }
+        ensures err { IfErr result (λ reason. event_step w.now self.old event ≡ Err reason) }
+    {
+        if self.in_summary || event.tick < self.tick {
+            return Err(Reason::Order);
+        }
+        if !is_lane(w, event.node) {
+            return Err(Reason::Node);
+        }
+        self.tick = event.tick;
+        Ok(Told {
+            bar: self.turn(w, event),
+            mark: mark(w, event),
+        })
+    }
+
+    /// Takes a line.
+    pub(crate) fn take(&mut self, w: &Window, line: ReportLine) -> Result<Told, Reason>
+        ensures ok { IfOk result (λ told. step w.now self.old line ≡ Ok (self.new, told)) }
+        ensures err { IfErr result (λ reason. step w.now self.old line ≡ Err reason) }
+    {
+        match line {
+            ReportLine::Event(event) => self.event(w, event),
+            ReportLine::Settled => {
+                if self.in_summary {
+                    return Err(Reason::Order);
+                }
+                self.in_summary = true;
+                Ok(Told {
+                    bar: None,
+                    mark: Some(Shape::Settled),
+                })
+            }
+            ReportLine::Totals(node) => {
+                if !self.in_summary {
+                    return Err(Reason::Order);
+                }
+                if !is_lane(w, node) {
+                    return Err(Reason::Node);
+                }
+                Ok(Told {
+                    bar: None,
+                    mark: Some(Shape::Totals(node)),
+                })
+            }
+            ReportLine::Offer => {
+                if !self.in_summary {
+                    return Err(Reason::Order);
+                }
+                Ok(Told {
+                    bar: None,
+                    mark: None,
+                })
+            }
+        }
+    }
+}

@@ -1,5 +1,6 @@
 pub mod CaptureSteps
 pub mod TextEnds
+mod GivenLines
 pub mod TaskAnswers
 pub mod ScriptCalls
 pub mod WholeInput
@@ -8,3 +9,4 @@ mod ScriptRuns
 pub mod DecodeEnds
 pub mod FedPieces
 pub mod CaptureCalls
+mod GeneratedCalls

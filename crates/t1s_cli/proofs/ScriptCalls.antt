@@ -1,5 +1,5 @@
 -- What a call with a task on a script says of the answer of the program.
-use Rattle.std.proofs.Common.{◌≡◌, ◌≢◌, ◌⊎◌, ℕ, ◌≤◌, Bool, true, List, [], drop, Option, Some, Result, Ok, Err, refl, sym, ap, ◌∙◌, inl, inr, arith}
+use Rattle.std.proofs.Common.{◌≡◌, ◌≢◌, ◌⊎◌, ℕ, Bool, true, List, [], drop, Option, Some, Result, Ok, Err, refl, ap, ◌∙◌, inl, inr, arith}
 use Rattle.std.specs.Prelude.{IsOk}
 use Rattle.t1s_base.specs.Causes.{FaultCountRose}
 use Rattle.t1s_base.specs.Octets.{Grows, GrowsByPrefix}

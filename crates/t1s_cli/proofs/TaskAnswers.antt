@@ -1,5 +1,5 @@
 -- What the ending of a text says of the answer that a task gave.
-use Rattle.std.proofs.Common.{◌≡◌, ◌≢◌, ◌⊎◌, ◌<◌, ◌==◌, ℕ, Bool, true, List, Option, refl, sym, ap, ◌∙◌, inl, inr, arith}
+use Rattle.std.proofs.Common.{◌≡◌, ◌≢◌, ◌⊎◌, ◌<◌, ◌==◌, ℕ, Bool, true, List, Option, refl, inl, inr, arith}
 use Rattle.std.proofs.lemmas.Bool.{eqb-true}
 use Rattle.std.proofs.lemmas.List.Folds.{Any-from_list_any}
 use Rattle.std.specs.Prelude.{Result, Ok, Err}
@@ -14,7 +14,7 @@ use Rattle.t1s_report.specs.RefusalLines.{refused_line}
 use Rattle.t1s_cli.specs.Answers.{has_node, status_of, text_of}
 use Rattle.t1s_cli.specs.TextOutcome.{TextOutcome}
 use Rattle.t1s_cli.specs.declared.status.Status.{Status}
-use Rattle.t1s_cli.specs.declared.status.Status.TheVariants.{Done, Refused, Usage, ReadFault, WriteFault, Memory}
+use Rattle.t1s_cli.specs.declared.status.Status.TheVariants.{Done, Refused, Usage, ReadFault, Memory}
 
 -- a node of a valid script has a number below 16
 pub node_below : (s : Script) (node : ℕ) → IsScript s → has_node s node ≡ true → node < most_nodes

@@ -1,5 +1,5 @@
 -- How a command ends once its text was written.
-use Rattle.std.proofs.Common.{◌≡◌, ◌≢◌, ◌⊎◌, ◌≤◌, ℕ, Bool, true, List, length, Option, sym, ◌∙◌, inl, inr, arith}
+use Rattle.std.proofs.Common.{◌≡◌, ◌≢◌, ◌⊎◌, ℕ, Bool, true, List, length, Option, sym, ap, ◌∙◌, inl, inr}
 use Rattle.std.proofs.Math.Seq.{take-length}
 use Rattle.t1s_base.specs.Octets.{Grows}
 use Rattle.t1s_cli.specs.Faults.{HasFaultCause}
@@ -20,3 +20,7 @@ text_finished written faults finished whole text a b c r no_fault no_want grows 
   cause = rw same at cause;
   silent = λ e. absurd (elim why [ inl f ↦ no_want (sym f ∙ e) | inr f ↦ cc ]);
 }
+
+-- a sink that was lent has grown by what was written to it meanwhile
+pub lent_back : {K : Type 0} (written : K → Option (List ℕ)) (before lent after : K) (text : List ℕ) → after ≡ lent → Grows (written before) (written lent) text → Grows (written before) (written after) text
+lent_back written before lent after text same grows = ap written same ∙ grows

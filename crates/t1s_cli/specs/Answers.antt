@@ -10,10 +10,11 @@ use Rattle.t1s_report.specs.DecodedText.{IsItemText, IsCaptureText, IsOffenceTex
 use Rattle.t1s_report.specs.FitnessLines.{check_line}
 use Rattle.t1s_report.specs.HeardText.{heard_text}
 use Rattle.t1s_report.specs.JsonSummary.{json_summary}
+use Rattle.t1s_report.specs.PcapText.{node_pcap}
 use Rattle.t1s_report.specs.RefusalLines.{refused_line}
 use Rattle.t1s_report.specs.Report.{report}
 use Rattle.t1s_cli.specs.declared.commands.ScriptTask.{ScriptTask}
-use Rattle.t1s_cli.specs.declared.commands.ScriptTask.TheVariants.{Run, Check, Json, Capture}
+use Rattle.t1s_cli.specs.declared.commands.ScriptTask.TheVariants.{Run, Check, Json, Capture, Pcap}
 use Rattle.t1s_cli.specs.declared.commands.CaptureTask.{CaptureTask}
 use Rattle.t1s_cli.specs.declared.commands.CaptureTask.TheVariants.{Decode}
 use Rattle.t1s_cli.specs.declared.status.Status.{Status}
@@ -33,6 +34,7 @@ task_answer Run s = Ok (report s)
 task_answer Check s = Ok (check_line s)
 task_answer Json s = Ok (json_summary s)
 task_answer (Capture node) s = if has_node s node then Ok (heard_text s node) else Err no_such_node
+task_answer (Pcap node) s = if has_node s node then Ok (node_pcap s node) else Err no_such_node
 
 -- what it gives where reading gave this
 abbrev pub answer_for : ScriptTask → Result Script ScriptRefusal → Result (List ℕ) ScriptRefusal

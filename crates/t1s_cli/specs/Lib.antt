@@ -2,6 +2,7 @@ pub mod Words
 pub mod Answers
 pub mod Faults
 pub mod TextOutcome
+pub mod Generated
 pub mod ScriptCall
 pub mod DecodeProgress
 pub mod CaptureCall

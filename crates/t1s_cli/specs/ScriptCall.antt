@@ -6,7 +6,7 @@ use Rattle.t1s_cli.specs.Faults.{HasFaultCause}
 use Rattle.t1s_cli.specs.TextOutcome.{TextOutcome}
 use Rattle.t1s_cli.specs.declared.commands.ScriptTask.{ScriptTask}
 use Rattle.t1s_cli.specs.declared.status.Status.{Status}
-use Rattle.t1s_cli.specs.declared.status.Status.TheVariants.{Usage, ReadFault, WriteFault, Memory}
+use Rattle.t1s_cli.specs.declared.status.Status.TheVariants.{ReadFault, Memory}
 
 -- It read octets, where `left` tells what the source has left, and wrote what the task gives for them. They are read as
 -- all octets are that the source had left: those after the octet 1,048,577 stay there. A failed read ends the call

@@ -14,6 +14,10 @@ const AT_NODE_0: &[u8] = b"T1SC\x01\x00\x20\x00\x00\x20\x6C\x21";
 
 const TWO_COORDINATORS: &[u8] = b"t1s 1\ncount 3\nnode 0 0 0\nnode 1 1 4\nnode 7 0 0\nend 8300\n";
 
+/// Nodes 1 and 2 have one ID: both send in its opportunity, and node 0 hears the one while the other is on its way.
+const TWO_SENDERS: &[u8] = b"t1s 1\ncount 2\nto 40\nnode 0 0 0\nnode 1 1 1\nnode 2 1 13\n\
+fill 10400 1 60 01\nfill 10400 2 60 02\nend 10700\n";
+
 const LATE_NODE: &[u8] =
     b"t1s 1\ncount 3\nnode 0 0 0\nnode 1 1 2\nnode 2 2 5\nlate 2 8270\nend 8300\n";
 
@@ -68,6 +72,18 @@ fn several_signals_or_any_in_a_drive_tear_a_burst(rt: HostRuntime) -> Result<(),
         "1",
         b"T1SC\x01\x01\x20\x00\x00\x20\x44\x22\x00\x00\x00\x14\x20\x00\x00\x00\x14\x21",
         b"torn 8260 8280 0 20\nend 8300 beacons 0 runs 0 bare 0 torn 1 pieces 0 good 0\n",
+    )
+}
+
+#[test]
+fn a_frame_that_meets_another_is_torn(rt: HostRuntime) -> Result<(), Fail> {
+    check_capture(
+        &rt,
+        rt.alloc(),
+        TWO_SENDERS,
+        "0",
+        b"T1SC\x01\x00\x20\x00\x00\x28\xFA\x18\x18\x04\x04\x0B\x0B\x22\x00\x00\x00\x68\x20\x00\x00\x00\x52\x21",
+        b"torn 10490 10618 6 104\nend 10700 beacons 0 runs 0 bare 0 torn 1 pieces 0 good 0\n",
     )
 }
 

@@ -1,5 +1,7 @@
 // The command `decode`: the items of a capture, written as it is read.
-ghost use Rattle.std.specs.Prelude.{◌≡◌, ℕ, List, [], ◌∷◌, ◌++◌, IfOk, IfErr};
+ghost use Rattle.std.specs.Prelude.{◌≡◌, ℕ, List, [], ◌∷◌, ◌++◌, OnOk, IfErr};
+ghost use Rattle.t1s_capture.specs.State.{DecoderState};
+ghost use Rattle.t1s_capture.specs.Advances.{AdvanceFits, advance_next};
 ghost use Rattle.t1s_cli.specs.DecodeProgress.{AnswersOctet, ShownItems, DecodeProgress, DecodeEnd, DecodeStop};
 ghost use Rattle.t1s_cli.specs.CaptureCall.{CaptureCall};
 
@@ -7,56 +9,57 @@ use crate::script_input::PIECE;
 use crate::status::Status;
 use crate::text_end::write_last;
 use t1s_base::{Failed, Line, Sink, Source};
-use t1s_capture::{Decoder, Next};
+use t1s_capture::{Advance, Decoder};
 use t1s_report::{end_line, item_line, offence_line};
 
 /// Writes the line of the item that is handed out at an octet, or of its refusal. `Err` is the answer with which the
 /// decoding ends there. The line is room for what is written.
-fn write_answer<K: Sink>(next: Next, line: &mut Line, sink: &mut K) -> Result<Decoder, Status>
-    ensures ok { (first : K) (octets : List ℕ) (octet : ℕ) → AnswersOctet octets octet next → ShownItems K.written K.faults octets first sink.old →
-        IfOk result (λ decoder. DecodeProgress K.written K.faults (octets ++ octet ∷ []) decoder first sink.new) }
-    ensures err { (first : K) (octets : List ℕ) (octet : ℕ) → AnswersOctet octets octet next → ShownItems K.written K.faults octets first sink.old →
+fn write_answer<K: Sink>(advance: &Advance<'_>, line: &mut Line, sink: &mut K) -> Result<(), Status>
+    requires { AdvanceFits advance.now }
+    ensures ok { (first : K) (octets : List ℕ) (octet : ℕ) (decoder : DecoderState) →
+        AnswersOctet octets octet (advance_next advance.now decoder) → ShownItems K.written K.faults octets first sink.old →
+        OnOk result (DecodeProgress K.written K.faults (octets ++ octet ∷ []) decoder first sink.new) }
+    ensures err { (first : K) (octets : List ℕ) (octet : ℕ) (decoder : DecoderState) →
+        AnswersOctet octets octet (advance_next advance.now decoder) → ShownItems K.written K.faults octets first sink.old →
         IfErr result (λ status. DecodeStop K.written K.faults K.finished (octets ++ octet ∷ []) first sink.new status) }
 {
-    match next {
-        Next::More(decoder) => Ok(decoder),
-        Next::Held(held) => {
-            item_line(line, &held.item());
+    match *advance {
+        Advance::More => Ok(()),
+        Advance::Held(item) => {
+            item_line(line, &item);
             match sink.write(line.as_slice()) {
-                Ok(()) => Ok(held.release()),
+                Ok(()) => Ok(()),
                 Err(_) => Err(Status::WriteFault),
             }
         }
-        Next::Refused(refusal) => {
+        Advance::Refused(refusal) => {
             offence_line(line, &refusal);
             Err(write_last(line, sink, Status::Refused))
         }
     }
 }
 
-/// Takes the octets of a piece, up to each item that is handed out.
+/// Takes the octets of a piece, up to each item that is handed out. The decoder stays where it is.
 fn decode_piece<K: Sink>(
-    decoder: Decoder,
+    decoder: &mut Decoder,
     piece: &[u8],
     line: &mut Line,
     sink: &mut K,
-) -> Result<Decoder, Status>
-    ensures ok { (first : K) (octets : List ℕ) → DecodeProgress K.written K.faults octets decoder first sink.old →
-        IfOk result (λ next. DecodeProgress K.written K.faults (octets ++ piece.now) next first sink.new) }
-    ensures err { (first : K) (octets : List ℕ) → DecodeProgress K.written K.faults octets decoder first sink.old →
+) -> Result<(), Status>
+    ensures ok { (first : K) (octets : List ℕ) → DecodeProgress K.written K.faults octets decoder.old first sink.old →
+        OnOk result (DecodeProgress K.written K.faults (octets ++ piece.now) decoder.new first sink.new) }
+    ensures err { (first : K) (octets : List ℕ) → DecodeProgress K.written K.faults octets decoder.old first sink.old →
         IfErr result (λ status. DecodeStop K.written K.faults K.finished (octets ++ piece.now) first sink.new status) }
 {
-    let mut decoder = decoder;
     let mut at = 0;
     while at < piece.len() {
-        let (count, next) = decoder.feed(&piece[at..]);
-        match write_answer(next, line, sink) {
-            Ok(after) => decoder = after,
+        let (count, advance) = decoder.advance(&piece[at..]);
+        match write_answer(&advance, line, sink) {
+            Ok(()) => at += count,
             Err(status) => return Err(status),
         }
-        at += count;
     }
-    Ok(decoder)
+    Ok(())
 }
 
 /// Writes the last line where the octets end. The line is room for it.
@@ -87,8 +90,8 @@ pub(crate) fn decode_command<S: Source, K: Sink>(source: &mut S, sink: &mut K) -
     loop {
         match source.read(&mut piece) {
             Ok(0) => return decode_end(decoder, &mut line, sink),
-            Ok(count) => match decode_piece(decoder, &piece[..count], &mut line, sink) {
-                Ok(next) => decoder = next,
+            Ok(count) => match decode_piece(&mut decoder, &piece[..count], &mut line, sink) {
+                Ok(()) => {}
                 Err(status) => return status,
             },
             Err(Failed) => return Status::ReadFault,

@@ -14,7 +14,9 @@ mod capture_command;
 mod check_command;
 mod commands;
 mod decode_command;
+mod generated_commands;
 mod json_command;
+mod pcap_command;
 mod program;
 mod run_command;
 mod script_commands;
@@ -34,10 +36,14 @@ mod collision_rows;
 #[cfg(test)]
 mod decode_tests;
 #[cfg(test)]
+mod generated_tests;
+#[cfg(test)]
 mod json_tests;
 #[cfg(test)]
 mod offer_rows;
 #[cfg(test)]
 mod offer_tests;
+#[cfg(test)]
+mod pcap_tests;
 #[cfg(test)]
 mod tests;

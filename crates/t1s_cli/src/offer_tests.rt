@@ -10,16 +10,16 @@ use crate::offer_rows::{
     FULL_LOAD, FULL_LOAD_REPORT, LATE_FOLLOWER, LATE_FOLLOWER_REPORT, LATE_OFF, LATE_OFF_REPORT,
     ONE_FRAME, ONE_FRAME_REPORT, Part, SHORT_FRAME,
 };
-use crate::tests::{Row, check_rows, check_texts};
+use crate::tests::{Row, call, check_rows, check_texts};
 use crate::{Status, play};
 use std::alloc::{AllocError, Global};
 use std::test::Fail;
-use t1s_base::{Failed, Sink, WriteStop};
+use t1s_base::{Failed, QuietSource, Sink, WriteStop};
 use t1s_script::read_script;
 use t1s_segment::Segment;
 
 /// The octets of a text.
-fn joined(alloc: Global, parts: &[Part]) -> Result<Vec<u8>, AllocError> {
+pub(crate) fn joined(alloc: Global, parts: &[Part]) -> Result<Vec<u8>, AllocError> {
     let mut octets = Vec::new(alloc);
     for part in parts {
         let (text, digits, times) = *part;
@@ -167,6 +167,38 @@ end 9200 beacons 3 runs 1 bare 0 torn 1 pieces 1 good 1\n",
         0,
     ),
 ];
+
+/// What node 2 hears of two frames in one drive.
+const BURST_AT_NODE_2: &[Part] = &[
+    (
+        b"beacon 8261\nbeacon 8381\npiece 8437 2 140 R good ",
+        b"00",
+        60,
+    ),
+    (b"\npiece 9021 27 140 R good ", b"11", 60),
+    (
+        b"\nrun 8437 9705 2\nbeacon 9745\n\
+end 9800 beacons 3 runs 1 bare 0 torn 0 pieces 2 good 2\n",
+        b"",
+        0,
+    ),
+];
+
+#[test]
+fn two_frames_in_one_drive_are_two_pieces(rt: HostRuntime) -> Result<(), Fail> {
+    let script = QuietSource::new(Vec::from_slice(rt.alloc(), BURST)?);
+    let (status, octets) = call(rt.alloc(), &["capture", "2"], script, &[])?;
+    assert_eq!(rt; status, Status::Done);
+    let text = joined(rt.alloc(), BURST_AT_NODE_2)?;
+    check(
+        &rt,
+        rt.alloc(),
+        octets.as_slice(),
+        Status::Done,
+        text.as_slice(),
+    )?;
+    Ok(())
+}
 
 #[test]
 fn frames_are_captured_and_decoded(rt: HostRuntime) -> Result<(), Fail> {

@@ -11,14 +11,18 @@ ghost use Rattle.t1s_capture.specs.Offences.{IsFirstOffence};
 ghost use Rattle.t1s_report.specs.RefusalLines.{refused_line};
 ghost use Rattle.t1s_cli.specs.declared.commands.ScriptTask.{ScriptTask};
 ghost use Rattle.t1s_cli.specs.declared.commands.CaptureTask.{CaptureTask};
+ghost use Rattle.t1s_cli.specs.declared.commands.GeneratedTask.{GeneratedTask};
+ghost use Rattle.t1s_cli.specs.declared.commands.ScriptNumbers.{ScriptNumbers};
+ghost use Rattle.t1s_cli.specs.Generated.{IsGeneratedText};
 ghost use Rattle.t1s_cli.specs.Answers.{answer_of, status_of, text_of, IsWholeText, IsRefusedText, IsTextSoFar, IsTaskText};
 ghost use Rattle.t1s_cli.specs.CaptureCall.{IsReadInPieces};
 ghost use Rattle.t1s_cli.specs.Faults.{HasFaultCause};
 ghost use Rattle.t1s_cli.specs.RunLaws.{RunLaws};
-ghost use Rattle.t1s_cli.specs.Words.{AreTask, AreCaptureTask, AreCommand};
+ghost use Rattle.t1s_cli.specs.Words.{AreTask, AreCaptureTask, AreGeneratedTask, AreCommand, ReadsInput};
 
 use crate::commands::{CaptureTask, Command, command_of};
 use crate::decode_command::decode_command;
+use crate::generated_commands::generated_command;
 use crate::script_commands::script_command;
 use crate::status::Status;
 use std::alloc::Global;
@@ -40,9 +44,17 @@ use t1s_base::{Sink, Source};
 /// what that node hears in the script's run: the header, at most one text in each tick, and the last octets, each by
 /// one `write` call. Where the script has no such node it writes the refusal `UnknownNode` of line 0.
 ///
+/// With the word `pcap` and a number of a node, 0 to 31, it reads a script in the same way, and writes the good frames
+/// that arrive at that node in the script's run as a pcap file: the header, and a record for each, each by one `write`
+/// call. A missing node is refused as with `capture`.
+///
 /// With the one word `decode` it reads a capture in such pieces, up to the octet that is refused, and writes
 /// the line of each item and the line of the end or of the refusal, each by one `write` call. It takes no
 /// memory for that.
+///
+/// With the word `gen` and three numbers, a seed of 32 bits, 1 to 16 nodes and at most 400 frames, it reads nothing, and
+/// writes the script that they make, each line by one `write` call. It takes no memory for that. With the word `load` and
+/// such numbers it plays that script, and writes the summary of its run without the events, each line by one `write` call.
 ///
 /// The answers: `Usage` where the words are no row of this table, and nothing was read or written. `ReadFault` and
 /// `WriteFault` where the source or the sink failed, at once. `Refused` where the input is no script or no capture, or
@@ -61,7 +73,7 @@ pub fn workbench<S: Source, K: Sink>(
     ensures write_fault { HasFaultCause (K.faults sink.old) (K.faults sink.new) Status.WriteFault result }
     ensures memory_writes_nothing { result ≡ Status.Memory → sink.new ≡ sink.old }
     ensures finishes { (result ≡ Status.Done) ⊎ (result ≡ Status.Refused) → K.finished sink.new ≡ true }
-    ensures done_reads_all { (octets : List ℕ) → S.left source.old ≡ Some octets → result ≡ Status.Done → S.left source.new ≡ Some [] }
+    ensures done_reads_all { (octets : List ℕ) → ReadsInput words.now → S.left source.old ≡ Some octets → result ≡ Status.Done → S.left source.new ≡ Some [] }
 
     // The commands that read a script.
     ensures script_done { (task : ScriptTask) (octets : List ℕ) → AreTask words.now task → S.left source.old ≡ Some octets → result ≡ Status.Done →
@@ -95,10 +107,22 @@ pub fn workbench<S: Source, K: Sink>(
         ¬ (FaultCountRose (S.faults source.old) (S.faults source.new)) → ¬ (FaultCountRose (K.faults sink.old) (K.faults sink.new)) →
         (IsCapture octets → length octets ≤ 2 ^ 30 → result ≡ Status.Done) ×
         ((refusal : Refusal) → IsFirstOffence octets refusal.offset refusal.why → result ≡ Status.Refused) }
+
+    // The commands that read nothing.
+    ensures generated_source { (task : GeneratedTask) → AreGeneratedTask words.now task → source.new ≡ source.old }
+    ensures generated_answers { (task : GeneratedTask) → AreGeneratedTask words.now task → (result ≢ Status.ReadFault) × (result ≢ Status.Refused) }
+    ensures generated_done { (task : GeneratedTask) → AreGeneratedTask words.now task → result ≡ Status.Done →
+        (text : List ℕ) × IsGeneratedText task text × Grows (K.written sink.old) (K.written sink.new) text }
+    ensures generated_write_fault { (task : GeneratedTask) → AreGeneratedTask words.now task → result ≡ Status.WriteFault →
+        (text : List ℕ) × IsGeneratedText task text × GrowsByPrefix (K.written sink.old) (K.written sink.new) text }
+    ensures gen_takes_no_memory { (n : ScriptNumbers) → AreGeneratedTask words.now (GeneratedTask.Gen n) → result ≢ Status.Memory }
+    ensures generated_completes { (task : GeneratedTask) → AreGeneratedTask words.now task → ¬ (FaultCountRose (K.faults sink.old) (K.faults sink.new)) →
+        (result ≡ Status.Done) ⊎ (result ≡ Status.Memory) }
 {
     match command_of(words) {
         Some(Command::OnScript(task)) => script_command(alloc, task, source, sink),
         Some(Command::OnCapture(CaptureTask::Decode)) => decode_command(source, sink),
+        Some(Command::OnNumbers(task)) => generated_command(alloc, task, sink),
         None => Status::Usage,
     }
 }

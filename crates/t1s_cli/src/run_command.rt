@@ -18,7 +18,7 @@ use t1s_script::Script;
 use t1s_segment::Segment;
 
 /// Writes the summary of the ticks that were played.
-fn write_summary<K: Sink>(seg: &Segment, writer: &mut Writer<'_, K>)
+pub(crate) fn write_summary<K: Sink>(seg: &Segment, writer: &mut Writer<'_, K>)
     ensures { (s : Script) (t : ℕ) → Stands s t seg.now → WriterStep K.written K.faults K.finished writer.old (summary_below s t) writer.new }
 {
     let mut line = Line::new();

@@ -10,6 +10,7 @@ use crate::capture_command::capture_script;
 use crate::check_command::check_script;
 use crate::commands::ScriptTask;
 use crate::json_command::json_script;
+use crate::pcap_command::pcap_script;
 use crate::run_command::run_script;
 use crate::script_input::{ReadStop, read_whole};
 use crate::status::Status;
@@ -53,6 +54,13 @@ fn do_task<K: Sink>(alloc: Global, task: ScriptTask, script: &Script, sink: &mut
         ScriptTask::Capture(node) => {
             if has_node(script, node) {
                 capture_script(alloc, node, script, sink)
+            } else {
+                refuse(&NO_SUCH_NODE, sink)
+            }
+        }
+        ScriptTask::Pcap(node) => {
+            if has_node(script, node) {
+                pcap_script(alloc, node, script, sink)
             } else {
                 refuse(&NO_SUCH_NODE, sink)
             }

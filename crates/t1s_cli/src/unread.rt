@@ -1,5 +1,4 @@
 // Runs whose events nobody reads.
-ghost use Rattle.std.specs.Prelude.{ℕ};
 ghost use Rattle.t1s_script.specs.declared.script.Script.{Script};
 ghost use Rattle.t1s_segment.specs.Stands.{Stands};
 

@@ -5,7 +5,7 @@ use Rattle.std.specs.Prelude.{◌↔◌}
 use Rattle.t1s_cli.specs.declared.commands.Command.{Command}
 use Rattle.t1s_cli.specs.declared.commands.Command.TheVariants.{OnScript, OnCapture}
 use Rattle.t1s_cli.specs.declared.commands.ScriptTask.{ScriptTask}
-use Rattle.t1s_cli.specs.declared.commands.ScriptTask.TheVariants.{Run, Check, Json, Capture}
+use Rattle.t1s_cli.specs.declared.commands.ScriptTask.TheVariants.{Run, Check, Json, Capture, Pcap}
 use Rattle.t1s_cli.specs.declared.commands.CaptureTask.{CaptureTask}
 use Rattle.t1s_cli.specs.declared.commands.CaptureTask.TheVariants.{Decode}
 use Rattle.t1s_cli.specs.Words.{AreTask, AreCaptureTask}
@@ -23,18 +23,21 @@ run_row words is Run = (λ _. is, λ _. refl)
 run_row words is Check = (λ e. absurd cc, λ h. absurd (let z = sym is ∙ h in cc))
 run_row words is Json = (λ e. absurd cc, λ h. absurd (let z = sym is ∙ h in cc))
 run_row words is (Capture node) = (λ e. absurd cc, λ h. absurd (let z = sym is ∙ h.1 in cc))
+run_row words is (Pcap node) = (λ e. absurd cc, λ h. absurd (let z = sym is ∙ h.1 in cc))
 
 check_row : (words : List (String Global)) → map string_bytes words ≡ codes "check" ∷ [] → (task : ScriptTask) → (◌≡◌ {A = Option Command} (Some (OnScript Check)) (Some (OnScript task))) ↔ AreTask words task
 check_row words is Run = (λ e. absurd cc, λ h. absurd (let z = sym is ∙ h in cc))
 check_row words is Check = (λ _. is, λ _. refl)
 check_row words is Json = (λ e. absurd cc, λ h. absurd (let z = sym is ∙ h in cc))
 check_row words is (Capture node) = (λ e. absurd cc, λ h. absurd (let z = sym is ∙ h.1 in cc))
+check_row words is (Pcap node) = (λ e. absurd cc, λ h. absurd (let z = sym is ∙ h.1 in cc))
 
 json_row : (words : List (String Global)) → map string_bytes words ≡ codes "json" ∷ [] → (task : ScriptTask) → (◌≡◌ {A = Option Command} (Some (OnScript Json)) (Some (OnScript task))) ↔ AreTask words task
 json_row words is Run = (λ e. absurd cc, λ h. absurd (let z = sym is ∙ h in cc))
 json_row words is Check = (λ e. absurd cc, λ h. absurd (let z = sym is ∙ h in cc))
 json_row words is Json = (λ _. is, λ _. refl)
 json_row words is (Capture node) = (λ e. absurd cc, λ h. absurd (let z = sym is ∙ h.1 in cc))
+json_row words is (Pcap node) = (λ e. absurd cc, λ h. absurd (let z = sym is ∙ h.1 in cc))
 
 decode_row : (words : List (String Global)) → map string_bytes words ≡ codes "decode" ∷ [] → (task : CaptureTask) → (◌≡◌ {A = Option Command} (Some (OnCapture Decode)) (Some (OnCapture task))) ↔ AreCaptureTask words task
 decode_row words is Decode = (λ _. is, λ _. refl)
@@ -57,6 +60,24 @@ capture_row words number node is reads (Capture n) = (
   λ h.
       let text : number ≡ decimal n = second (sym is ∙ h.1) in
       ap (option_map (λ (k : ℕ). OnScript (Capture k))) ((reads n).1 (h.0, text)),
+)
+capture_row words number node is reads (Pcap n) = (λ e. absurd cc, λ h. absurd (let z = sym is ∙ h.1 in cc))
+
+pcap_row : (words : List (String Global)) (number : List ℕ) (node : ℕ) → map string_bytes words ≡ codes "pcap" ∷ number ∷ [] →
+    ((n : ℕ) → (◌≡◌ {A = Option ℕ} (Some node) (Some n)) ↔ ((n ≤ 31) × (number ≡ decimal n))) →
+    (task : ScriptTask) → (◌≡◌ {A = Option Command} (Some (OnScript (Pcap node))) (Some (OnScript task))) ↔ AreTask words task
+pcap_row words number node is reads Run = (λ e. absurd cc, λ h. absurd (let z = sym is ∙ h in cc))
+pcap_row words number node is reads Check = (λ e. absurd cc, λ h. absurd (let z = sym is ∙ h in cc))
+pcap_row words number node is reads Json = (λ e. absurd cc, λ h. absurd (let z = sym is ∙ h in cc))
+pcap_row words number node is reads (Capture n) = (λ e. absurd cc, λ h. absurd (let z = sym is ∙ h.1 in cc))
+pcap_row words number node is reads (Pcap n) = (
+  λ e.
+      let same : node ≡ n = cc in
+      let (low, text) = (reads n).0 (ap Some same) in
+      (low, is ∙ ap (λ (word : List ℕ). codes "pcap" ∷ word ∷ []) text),
+  λ h.
+      let text : number ≡ decimal n = second (sym is ∙ h.1) in
+      ap (option_map (λ (k : ℕ). OnScript (Pcap k))) ((reads n).1 (h.0, text)),
 )
 
 pub returns-in-len1-clause-script : goal.returns-in-len1-clause-script
@@ -93,3 +114,11 @@ returns-in_ok-node-in-len2-clause-script c =
     let words : map string_bytes c.args.words.now ≡ codes "capture" ∷ c.as_bytes-in-len2.result.now ∷ [] =
     rw (octets, ← same) (two_words c.args.words.now c.word-item-then-words-lt3.result c.number-item.result c.in-len2.len_at_least c.in-len2.len_below c.word-item-then-words-lt3.is c.number-item.is) in
     capture_row c.args.words.now c.as_bytes-in-len2.result.now c.in_ok-node-in-len2.node words (λ n. rw c.in_ok-node-in-len2.was at (c.node_number.ensures n))
+
+pub returns-in_ok-node-in-len2-2-clause-script : goal.returns-in_ok-node-in-len2-2-clause-script
+returns-in_ok-node-in-len2-2-clause-script c =
+    let same : string_bytes c.word-item-then-words-lt3-2.result ≡ codes "pcap" = search rules in
+    let octets : c.as_bytes-in-len2-2.result.now ≡ string_bytes c.number-item-then-words-lt3.result = c.as_bytes-in-len2-2.ensures.value in
+    let words : map string_bytes c.args.words.now ≡ codes "pcap" ∷ c.as_bytes-in-len2-2.result.now ∷ [] =
+    rw (octets, ← same) (two_words c.args.words.now c.word-item-then-words-lt3-2.result c.number-item-then-words-lt3.result c.in-len2.len_at_least c.in-len2.len_below c.word-item-then-words-lt3-2.is c.number-item-then-words-lt3.is) in
+    pcap_row c.args.words.now c.as_bytes-in-len2-2.result.now c.in_ok-node-in-len2-2.node words (λ n. rw c.in_ok-node-in-len2-2.was at (c.node_number-in-len2-2.ensures n))

@@ -1,4 +1,4 @@
-use Rattle.std.proofs.Common.{◌≡◌, length, sym, ap, ◌∙◌, arith}
+use Rattle.std.proofs.Common.{◌≡◌, ap, ◌∙◌}
 use Rattle.t1s_script.specs.Reading.{script_of}
 use Rattle.t1s_cli.specs.Answers.{answer_of}
 use Rattle.t1s_cli.proofs.TaskAnswers.{outcome_no_read_fault}

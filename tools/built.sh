@@ -6,20 +6,26 @@
 set -u
 
 here=$(CDPATH='' cd -P -- "$(dirname -- "$0")/.." && pwd -P) || exit 1
-crate=$here/crates/t1s
-program=$crate/out/t1s
-record=$crate/out/t1s.record
 # shellcheck source=tools/program.sh
 . "$here/tools/program.sh"
+
+# Records that the program $1 is built of the sources whose sum is $2, if it is.
+record_program() {
+    crate=$here/crates/$1
+    program=$crate/out/$1
+    record=$program.record
+    begin_record
+    [ -x "$program" ] && [ "$(sum_of_sources)" = "$2" ] && write_record "$2"
+    ended=$?
+    [ -z "$begun" ] || rm -f "$begun"
+    return $ended
+}
 
 case ${1-} in
 sources) sum_of_sources ;;
 record)
-    begin_record
-    [ -x "$program" ] && [ "$(sum_of_sources)" = "${2-}" ] && write_record "$2"
-    ended=$?
-    [ -z "$begun" ] || rm -f "$begun"
-    exit $ended
+    record_program t1s_draw "${2-}"
+    record_program t1s "${2-}"
     ;;
 *) exit 2 ;;
 esac

@@ -82,7 +82,7 @@ function header() {
 
 # What another text looks like that was given in place of a capture.
 function other_text() {
-  if (octet[0] octet[1] octet[2] == "743173") return "; this looks like a script: run, check, json and capture read one"
+  if (octet[0] octet[1] octet[2] == "743173") return "; this looks like a script: run, check, json, capture and pcap read one"
   if (octet[0] octet[1] octet[2] octet[3] == "72656675") return "; this looks like the text of a refusal"
   return ""
 }

@@ -104,10 +104,11 @@ function is_number(text) {
   return text ~ /^(0|[1-9][0-9]*)$/ && length(text) <= 10
 }
 
-function is_within(text, wanted,    ends) {
+function is_within(text, wanted,    ends, low) {
   sub(/.*=/, "", wanted)
   split(wanted, ends, "-")
-  return text + 0 >= ends[1] + 0 && text + 0 <= ends[2] + 0
+  low = is_number(ends[1]) ? ends[1] + 0 : field[place_of("^" ends[1] "=")] + 1
+  return text + 0 >= low && text + 0 <= ends[2] + 0
 }
 
 function name_of(bad,    wanted) {
@@ -157,7 +158,7 @@ function half(wanted, which,    halves) {
 
 function range(wanted,    ends) {
   split(half(wanted, 2), ends, "-")
-  return ends[1] " to " ends[2]
+  return is_number(ends[1]) ? ends[1] " to " ends[2] : "above " ends[1] " and at most " ends[2]
 }
 
 function carriage_return() {

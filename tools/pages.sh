@@ -33,12 +33,33 @@ described() {
     done
 }
 
-# The numbers that commands take.
+# The numbers that commands take. Where a command has another range than the first one that takes a number of this name, it is named.
 numbers() {
     rows arguments.txt | while IFS='|' read -r name what; do
-        range=$(rows commands.txt | cut -d '|' -f 2 | tr ' ' '\n' | sed -n "s/^$name=//p" | head -n 1)
-        echo "$name|$what, ${range%-*} to ${range#*-}"
+        ranges=$(rows commands.txt | NAME=$name awk -F '|' '{
+            count = split($2, arguments, " ")
+            for (i = 1; i <= count; i++) {
+                split(arguments[i], part, "[=-]")
+                if (part[1] != ENVIRON["NAME"]) continue
+                range = part[2] " to " part[3]
+                if (first == "") printf "%s", first = range
+                else if (range != first) printf ", and %s with `%s`", range, $1
+            }
+        }')
+        echo "$name|$what, $ranges"
     done
+}
+
+# Calls to begin with.
+examples() {
+    cat <<'ROFF'
+t1s run examples/three_nodes/script.t1s
+t1s run \-\-summary examples/three_nodes/script.t1s
+t1s check examples/unfit/script.t1s
+t1s capture 2 examples/three_nodes/script.t1s > node_2.t1sc
+t1s decode node_2.t1sc
+t1s pcap 2 examples/one_frame/script.t1s > node_2.pcap
+ROFF
 }
 
 manual() {
@@ -53,8 +74,7 @@ $(commands | while read -r word; do usage_of "$word"; done | sed 's/^/t1s /' | r
 t1s \\-\\-version
 .fi
 .SH DESCRIPTION
-A 10BASE\\-T1S segment is one pair that up to 16 nodes share at 10 Mb/s. They take turns by PLCA.
-.B t1s
+A 10BASE\\-T1S segment is one pair that up to 16 nodes share at 10 Mb/s. They take turns by PLCA. \\fBt1s\\fR
 plays a segment that a script describes, bit time by bit time, and reads and writes captures of what a node hears. A bit time of
 100 ns is called a tick.
 .PP
@@ -71,11 +91,7 @@ $(rows options.txt | cut -d '|' -f 1,3 | tagged)
 $(rows statuses.txt | tagged)
 .SH EXAMPLES
 .nf
-t1s run examples/three_nodes/script.t1s
-t1s run \\-\\-summary examples/three_nodes/script.t1s
-t1s check examples/unfit/script.t1s
-t1s capture 2 examples/three_nodes/script.t1s > node_2.t1sc
-t1s decode node_2.t1sc
+$(examples)
 .fi
 .SH SEE ALSO
 docs/formats.md describes scripts, reports, captures and refusals.
@@ -112,6 +128,7 @@ $(options_by_command)
         case \$command in
 $(files_by_command)
         install) compopt -o dirnames 2>/dev/null ;;
+        picture) first=2 ;;
         esac
         [ "\$command" != help ] || words='$(commands | tr '\n' ' ')'
     fi
@@ -131,6 +148,8 @@ zsh_arguments() {
     for argument in $(command_column "$1" 2); do
         case $argument in
         PREFIX) printf " '1:folder:_directories'" ;;
+        '[FROM' | 'UNTIL]') printf " ':a tick:'" ;;
+        '[FILE]') printf " ':file:_files'" ;;
         *COMMAND*) printf " '1:command:(%s)'" "$(commands | tr '\n' ' ')" ;;
         *) printf " ':%s:'" "$(meaning_of "$argument")" ;;
         esac

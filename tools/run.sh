@@ -4,11 +4,12 @@
 # Runs the command whose words, file and options have been read.
 run_command() {
     refuse_terminal
-    open_input "$file"
+    [ "$reads" = nothing ] || open_input "$file"
     is_current || build
     case $reads in
     script) keep_script ;;
     capture) keep_capture ;;
+    nothing) exec </dev/null ;;
     esac
     run_program
     ended=$?
@@ -22,8 +23,12 @@ refuse_terminal() {
     *' --force '*) ;;
     *) return ;;
     esac
+    case $command in
+    pcap) file_name=node.pcap ;;
+    *) file_name=node.t1sc ;;
+    esac
     has_option --force || [ ! -t 1 ] || refuse_words \
-        "\`$command\` writes octets, which a terminal doesn't show: write them to a file, as \`t1s $words FILE > node.t1sc\`, or give --force" "$command"
+        "\`$command\` writes octets, which a terminal doesn't show: write them to a file, as \`t1s $words FILE > $file_name\`, or give --force" "$command"
 }
 
 # Ends with the program's status. Its standard output is the script's own, but for a part of the report.

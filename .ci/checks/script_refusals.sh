@@ -80,6 +80,14 @@ script 't1s 1/node 0 0 0/fill 5 0 1519 00/end 9' 'refused 3 FrameSize' '|       
 script 't1s 1/node 0 0 0/offer 5 0 00112233/end 9' 'refused 3 FrameSize' 'a frame has 14 to 1518 octets' 'this one has 4'
 script 't1s 1/node 0 0 0/fill 5 0 60 00/fill 4 0 60 00/end 9' 'refused 4 Order' '|      ^' 'line 3 above has the tick 5'
 script 't1s 1/node 0 0 0/fill 5 0 60 00/end 5' 'refused 4 Order' '`end` is above the tick of each timed line, and line 3 has the tick 5'
+script 't1s 1/node 0 0 0/tonode 0 15/end 9' 'refused 3 OutOfRange' '|          ^^' 'N of `tonode` is 16 to 255, and `15` is outside'
+script 't1s 1/node 0 0 0/tonode 0 40/tonode 0 40/end 9' 'refused 4 Twice' '`tonode` may stand once for a node, and that of node 0 stands in line 3 already'
+script 't1s 1/node 0 0 0/tonode 9 40/end 9' 'refused 3 UnknownNode' '|        ^' 'no `node` line of node 9 stands above'
+script 't1s 1/node 0 0 0/noise 9 9/end 20' 'refused 3 OutOfRange' '|         ^' 'U of `noise` is above T and at most 2000000, and `9` is outside'
+script 't1s 1/node 0 0 0/noise 9 2000001/end 20' 'refused 3 OutOfRange' '|         ^^^^^^^' 'U of `noise` is above T and at most 2000000'
+script 't1s 1/node 0 0 0/noise 2000001 9/end 20' 'refused 3 OutOfRange' '|       ^^^^^^^' 'T of `noise` is 0 to 2000000'
+script 't1s 1/node 0 0 0/noise 5 9/fill 4 0 60 00/end 20' 'refused 4 Order' 'line 3 above has the tick 5'
+script 't1s 1/node 0 0 0/noise 5 90/end 5' 'refused 4 Order' '`end` is above the tick of each timed line, and line 3 has the tick 5'
 draws=$(printf '/draw 0 7%.0s' $(seq 65))
 script "t1s 1/node 0 0 0$draws/end 9" 'refused 67 TooMany' '|      ^' 'at most 64 `draw` lines, and 64 of node 0 stand above'
 fills=$(printf '/fill 5 0 60 00%.0s' $(seq 4097))

@@ -46,6 +46,10 @@ newline='
 '
 run run <examples/three_nodes/script.t1s
 row "run" 0 "$(cat examples/three_nodes/run.txt)$newline"
+run gen 1 1 0 <.
+row "gen, which reads nothing" 0 "$(cat examples/generated/gen_1_1_0.txt)$newline"
+run load 1 1 0 <.
+row "load, which reads nothing" 0 "$(cat examples/generated/load_1_1_0.txt)$newline"
 run run </dev/null
 row "run on no input" 1 "refused 1 FirstLine$newline"
 run check </dev/null
@@ -56,6 +60,8 @@ run json </dev/null
 row "json on no input" 1 "refused 1 FirstLine$newline"
 run capture 7 <$script
 row "capture of a node that is not there" 1 "refused 0 UnknownNode$newline"
+run pcap 31 <$script
+row "pcap of a node that is not there" 1 "refused 0 UnknownNode$newline"
 run decode </dev/null
 row "decode on no input" 1 "refused 0 Truncated$newline"
 
@@ -67,12 +73,18 @@ run run run <$script
 row "a word too many" 2 ""
 run capture 16 <$script
 row "a number out of range" 2 ""
+run pcap 32 <$script
+row "another one" 2 ""
+run gen 1 0 0 <$script
+row "a number below its range" 2 ""
+run load 1 1 401 <$script
+row "one above it" 2 ""
 run "$(printf '\377')" <$script
 row "a word that is not UTF-8" 2 ""
 run run "$(printf '\303')" <$script
 row "a second word that is not UTF-8" 2 ""
 
-for words in run check json "capture 2" decode; do
+for words in run check json "capture 2" "pcap 2" decode; do
   # shellcheck disable=SC2086  # the words are split on purpose
   run $words <.
   row "$words where standard input is a folder" 3 ""
@@ -82,4 +94,9 @@ for words in run check json "capture 2" decode; do
 done
 run_full run <$script
 row "run of a script where standard output is full" 4 ""
+for words in "gen 1 1 0" "load 1 1 0"; do
+  # shellcheck disable=SC2086
+  run_full $words
+  row "$words where standard output is full" 4 ""
+done
 exit $status

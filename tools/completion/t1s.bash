@@ -2,14 +2,18 @@
 _t1s() {
     local word=${COMP_WORDS[COMP_CWORD]} command=${COMP_WORDS[1]-} words='' first=99
     if [ "$COMP_CWORD" -eq 1 ]; then
-        words='run check json capture decode help install --help --version'
+        words='run check json capture pcap decode gen load picture help install --help --version'
     else
         case $command in
         run) words='--summary --events' ;;
         check) words='' ;;
         json) words='' ;;
         capture) words='--force' ;;
+        pcap) words='--force' ;;
         decode) words='' ;;
+        gen) words='' ;;
+        load) words='' ;;
+        picture) words='' ;;
         help) words='' ;;
         install) words='' ;;
         esac
@@ -18,10 +22,12 @@ _t1s() {
         check) first=2 ;;
         json) first=2 ;;
         capture) first=3 ;;
+        pcap) first=3 ;;
         decode) first=2 ;;
         install) compopt -o dirnames 2>/dev/null ;;
+        picture) first=2 ;;
         esac
-        [ "$command" != help ] || words='run check json capture decode help install '
+        [ "$command" != help ] || words='run check json capture pcap decode gen load picture help install '
     fi
     COMPREPLY=($(compgen -W "$words" -- "$word"))
     if [ "$COMP_CWORD" -ge "$first" ]; then compopt -o default 2>/dev/null; fi

@@ -1,4 +1,9 @@
 pub mod View
+pub mod CalmTick
+pub mod CalmRun
+pub mod CalmStill
+pub mod CalmTold
+pub mod CalmCalls
 pub mod LineFeed
 pub mod NoPiece
 pub mod MacTurns

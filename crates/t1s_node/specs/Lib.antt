@@ -1,6 +1,7 @@
 pub mod CarrierTable
 pub mod Leaves
 pub mod Node
+pub mod CalmNode
 pub mod Core
 pub mod Laws
 pub mod Runs

@@ -6,6 +6,7 @@ ghost use Rattle.t1s_node.specs.Runs.{DrawsAreBounded};
 ghost use Rattle.t1s_node.specs.Laws.{StartsOnlyAwake, DefersBriefly, JamsOnce, LeavesOrPends, PendsUntilOwn, CommitsBriefly, LeavesOnceCommitted, SendsWholePiece, SentInPiece};
 ghost use Rattle.t1s_node.specs.ClosedPieces.{ClosesWholeFrames};
 ghost use Rattle.t1s_node.specs.NodeRuns.{RunsAsCore};
+ghost use Rattle.t1s_node.specs.CalmNode.{CalmTellsNothing};
 
 use t1s_mac::Draws;
 
@@ -70,4 +71,9 @@ pub fn closes_whole_frames<D: Draws>()
 /// node.
 pub fn runs_as_core()
     ensures { RunsAsCore }
+{}
+
+/// A calm tick of a node tells of nothing.
+pub fn calm_tells_nothing()
+    ensures { CalmTellsNothing }
 {}

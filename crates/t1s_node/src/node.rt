@@ -1,15 +1,20 @@
 //! `Node`, which a segment drives and lets hear once a tick.
-ghost use Rattle.std.specs.Prelude.{◌≡◌, ◌<◌, ◌↔◌, [], length, IsOk, IsErr, IsSome, IfErr, IfSome};
+ghost use Rattle.std.specs.Prelude.{◌≡◌, ◌<◌, ◌↔◌, [], length, IsOk, IsErr, IsSome, IsTrue, IfErr, IfSome};
 ghost use Rattle.std.specs.Borrow.{sem};
+ghost use Rattle.std.specs.Fn.{iterate};
+ghost use Rattle.t1s_symbols.specs.CalmSteps.{AreCalm, IsCalmFor};
 ghost use Rattle.t1s_symbols.specs.Ranges.{IsHeard, IsQuarter};
 ghost use Rattle.t1s_pcs_rx.specs.Leaves.{event_shown, EventFits};
 ghost use Rattle.t1s_pcs_rx.specs.ReceiveTable.{receive_event};
 ghost use Rattle.t1s_pcs_tx.specs.State.{is_closed};
 ghost use Rattle.t1s_pcs_tx.specs.TransmitTable.{transmit_step};
+ghost use Rattle.plca_control.specs.ControlTable.{control_step};
 ghost use Rattle.plca_data.specs.Ranges.{IsMacOut};
+ghost use Rattle.t1s_mac.specs.CalmMac.{mac_after, IsCalmMac};
 ghost use Rattle.t1s_mac.specs.MacTable.{mac_step};
 ghost use Rattle.t1s_mac.specs.PickedDraws.{picked_answer, picked_after};
 ghost use Rattle.t1s_mac.specs.State.{number_of};
+ghost use Rattle.t1s_node.specs.CalmNode.{node_after_silence, IsCalmNode, is_still, quiet_has_no_part};
 ghost use Rattle.t1s_node.specs.Core.{control_in};
 ghost use Rattle.t1s_node.specs.Node.{IsNodeSet, reading_of, mac_in, node_start, node_after_offer, node_drive, node_sense, is_clash};
 ghost use Rattle.t1s_node.specs.Leaves.{LeavesNode};
@@ -43,14 +48,15 @@ pub struct Node {
 }
 
 impl Model for Node {
-    ghost use Rattle.std.specs.Prelude.{IsSome};
+    ghost use Rattle.std.specs.Prelude.{IsSome, IsTrue};
     ghost use Rattle.t1s_node.specs.Node.{NodeState, mac_in};
+    ghost use Rattle.t1s_node.specs.CalmNode.{quiet_has_no_part};
 
     ghost Value = { NodeState };
 
     ghost view = { λ n. record { rise = n.rise; fall = n.fall; core = record { control = n.control; mac = mac_in n.mac; tx = n.tx; path = n.path; line = n.line }; status = n.status; carrier = n.carrier; receiver = n.receiver; hit = n.hit; drove = n.drove } };
 
-    ghost invariant = { λ n. IsSome n.mac };
+    ghost invariant = { λ n. IsSome n.mac × IsTrue (quiet_has_no_part n.tx) };
 }
 
 /// Steps the MAC in its slot: what it tells, and the number of the frame in its Sending or Jamming then.
@@ -75,12 +81,38 @@ fn step_mac(
     (told, number)
 }
 
+/// For how many ticks with this carrier and collision the MAC in its slot is calm, up to `most`.
+fn mac_calm_for(slot: &Option<Mac<PickedDraws>>, carrier: bool, collision: bool, most: u64) -> u64
+    requires { IsSome slot.now }
+    ensures { IsCalmFor (mac_after picked_answer picked_after carrier collision) (IsCalmMac picked_answer picked_after carrier collision) (mac_in slot.now) most result }
+{
+    match slot {
+        Some(mac) => mac.calm_for(carrier, collision, most),
+        None => unreachable!(),
+    }
+}
+
+/// Passes so many calm ticks of the MAC in its slot.
+fn pass_mac(slot: &mut Option<Mac<PickedDraws>>, carrier: bool, collision: bool, n: u64)
+    requires held { IsSome slot.old }
+    requires calm { AreCalm (mac_after picked_answer picked_after carrier collision) (IsCalmMac picked_answer picked_after carrier collision) (mac_in slot.old) n }
+    ensures steps { mac_in slot.new ≡ iterate (mac_after picked_answer picked_after carrier collision) n (mac_in slot.old) }
+    ensures held { IsSome slot.new }
+{
+    let held = match slot.take() {
+        Some(mac) => mac,
+        None => unreachable!(),
+    };
+    *slot = Some(held.pass(carrier, collision, n));
+}
+
 /// Steps the transmitter in its place: the quarter that it drives.
 fn step_tx(tx: &mut PcsTx, inp: TxIn, line: &mut DelayLine) -> Option<Quarter>
     ensures state { tx.new ≡ (transmit_step tx.old inp line.old).state }
     ensures driven { result ≡ (transmit_step tx.old inp line.old).driven }
     ensures line { line.new ≡ (transmit_step tx.old inp line.old).line }
     ensures quarter { IfSome result IsQuarter }
+    ensures part { IsTrue (quiet_has_no_part tx.new) }
 {
     let held = std::mem::replace(tx, PcsTx::start());
     let (next, quarter) = held.step(inp, line);
@@ -214,5 +246,68 @@ impl Node {
         let hit = self.drove && heard;
         self.hit = hit;
         matches!(h, Heard::Many) || hit
+    }
+
+    /// Whether the node can be calm at all: it neither drove nor was hit in the last tick, reads no carrier and is not
+    /// about to, is inside no burst, and its transmitter is in Quiet.
+    fn is_still(&self) -> bool
+        ensures { result ≡ is_still self.now }
+    {
+        !self.drove
+            && !self.hit
+            && !self.carrier.on
+            && self.carrier.run == 0
+            && !self.receiver.inside()
+            && matches!(self.tx.report(), TxReport::Quiet)
+    }
+
+    /// What the data path is told in a tick in which the MAC gives out nothing, where control is told `found`.
+    fn silent_data_in(&self, found: ControlIn) -> DataIn
+        ensures { result ≡ record { active = (control_step self.now.core.control found).1.active; own = (control_step self.now.core.control found).1.own; closed = is_closed found.tx; crs = found.crs; class = found.class; hit = self.now.hit; mac = MacOut.Nothing } }
+    {
+        let (_, given) = self.control.step(found);
+        data_in(found, given, self.hit, MacOut::Nothing)
+    }
+
+    /// For how many ticks, one after the other, the node does nothing but count, where it hears nothing and is offered
+    /// nothing: the greatest number up to `most`. It is asked between `hear` and `drive`.
+    ///
+    /// In such a calm tick the node drives nothing, and no carrier is read, nor about to be. The MAC neither sends nor
+    /// jams, and each machine, and deference, keeps the name of its state. Nothing that is kept changes but the ticks
+    /// of Recover, of WaitTo, of Hysteresis, of DelayPending, of a backoff and of an interframe gap.
+    ///
+    /// What a machine is told in silence hangs on no count, so it is the same in each calm tick: the node is calm for
+    /// as long as each of its machines is.
+    pub fn calm_for(&self, most: u64) -> u64
+        ensures { IsCalmFor node_after_silence IsCalmNode self.now most result }
+    {
+        if !self.is_still() {
+            return 0;
+        }
+        let found = self.control_in();
+        let control = self.control.calm_for(found, most);
+        if control == 0 {
+            return 0;
+        }
+        let told = self.silent_data_in(found);
+        let status = self.status.calm_for(told.active, control);
+        let shown = self.path.carrier(found.crs);
+        let mac = mac_calm_for(&self.mac, shown, self.path.collision(), status);
+        self.path.calm_for(told, mac)
+    }
+
+    /// So many ticks in which the node hears nothing and is offered nothing, at once. It asks that all of them are
+    /// calm, as `calm_for` tells, and leaves what as many pairs of `drive` and `hear` leave.
+    pub fn pass(&mut self, n: u64)
+        requires { AreCalm node_after_silence IsCalmNode self.old n }
+        ensures { self.new ≡ iterate node_after_silence n self.old }
+    {
+        let found = self.control_in();
+        let told = self.silent_data_in(found);
+        let shown = self.path.carrier(found.crs);
+        pass_mac(&mut self.mac, shown, self.path.collision(), n);
+        self.control = self.control.pass(found, n);
+        self.status = self.status.pass(told.active, n);
+        self.path = self.path.pass(told, n);
     }
 }

@@ -15,6 +15,8 @@ use t1s_pcs_tx::{PcsTx, TxCmd, TxIn};
 use t1s_ring::{DelayLine, FrameRing, Queued};
 use t1s_symbols::{Heard, Quarter, Symbol};
 
+mod calm;
+
 /// How long a beacon lasts, in ticks.
 const BEACON_TICKS: u16 = 20;
 

@@ -61,13 +61,13 @@ pub offers_start : (t : ℕ) (qs : List Queued) (k : Track) → (with_offers tra
 offers_start t [] k = refl
 offers_start t (q ∷ qs) k = offers_start t qs (offer_track t q k).0 ∙ offer_start t q k
 
-drive_start : (t : ℕ) (k : Track) → (drive_track t k).0.start ≡ k.start
+pub drive_start : (t : ℕ) (k : Track) → (drive_track t k).0.start ≡ k.start
 drive_start t k = elim (cases_lt t k.start) [
   | inl lt ↦ rw (drive_before t k lt) refl
   | inr ge ↦ rw (drive_started t k ge) refl
 ]
 
-hear_start : (t : ℕ) (x : Heard) (k : Track) → (hear_track t x k).0.start ≡ k.start
+pub hear_start : (t : ℕ) (x : Heard) (k : Track) → (hear_track t x k).0.start ≡ k.start
 hear_start t x k = elim (cases_lt t k.start) [
   | inl lt ↦ rw (hear_before t x k lt) refl
   | inr ge ↦ rw (hear_started t x k ge) refl
@@ -80,7 +80,7 @@ module _ (s : Script) where
   abbrev pub offered_in : ℕ → Track → Track
   offered_in t k = with_offers track_phases t (offers_to s.acts t k.no) k
 
-  starts_are : (t : ℕ) → map (λ (k : Track). k.start) (world s t).nodes ≡ map (λ (n : NodeLine). n.start) s.nodes
+  pub starts_are : (t : ℕ) → map (λ (k : Track). k.start) (world s t).nodes ≡ map (λ (n : NodeLine). n.start) s.nodes
   starts_are t =
       past_keeps (machine_of s) (places_of s) (first_tracks s) (λ (k : Track). k.start)
       (λ u k. drive_start u (offered_in u k) ∙ offers_start u (offers_to s.acts u k.no) k)
@@ -89,7 +89,7 @@ module _ (s : Script) where
       ∙ map-map (λ (k : Track). k.start) (first_track s) s.nodes
 
   -- the node at a position, as tick t finds it
-  track_at : (t j : ℕ) → j < length s.nodes → (k : Track) × (slice_get (world s t).nodes j ≡ Some k) × (start_of s j ≡ k.start)
+  pub track_at : (t j : ℕ) → j < length s.nodes → (k : Track) × (slice_get (world s t).nodes j ≡ Some k) × (start_of s j ≡ k.start)
   track_at t j there = elim (slice_get_cases (world s t).nodes j).1 [
     | inl found ↦ (
       found.0,

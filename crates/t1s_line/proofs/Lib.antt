@@ -14,3 +14,7 @@ pub mod OneRecord
 pub mod RecordTicks
 pub mod WaitsTold
 pub mod Meetings
+pub mod CalmPhases
+pub mod CalmRuns
+pub mod CalmTracks
+pub mod CalmScripts

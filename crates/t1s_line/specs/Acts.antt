@@ -28,6 +28,10 @@ queued_to node o = if o.node == node then Some o.queued else None
 abbrev pub offers_to : List Act → ℕ → ℕ → List Queued
 offers_to acts t node = filter_map (queued_to node) (offers_at acts t)
 
+-- one of the acts has the tick t
+unfoldable pub has_act : List Act → ℕ → Bool
+has_act acts t = list_any (λ (a : Act). a.tick == t) acts
+
 -- a noise that began at this tick lasts in tick t: it lasts up to the tick that it names, which is quiet again
 abbrev pub is_noise_in : ℕ → ℕ → Deed → Bool
 is_noise_in t begin (OfferDeed number node frame) = false

@@ -10,3 +10,5 @@ pub mod Happenings
 pub mod Beacons
 pub mod FramelessNodes
 pub mod Clashes
+pub mod CalmRuns
+pub mod CalmTicks

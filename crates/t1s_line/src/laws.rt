@@ -1,6 +1,7 @@
 //! Laws of the world of a script, and of a node of it.
 
 ghost use Rattle.t1s_line.specs.Beacons.{LoneCoordinatorBeacons};
+ghost use Rattle.t1s_line.specs.CalmTicks.{CalmTicksAreQuiet};
 ghost use Rattle.t1s_line.specs.Clashes.{ClashesAreMeetings, NoneCountedNoneMeet};
 ghost use Rattle.t1s_line.specs.FramelessNodes.{FramelessNodesBeacon};
 
@@ -24,4 +25,9 @@ pub fn clashes_are_meetings()
 /// Where the clash counter of a node is 0, no two drives are over its place in one of those ticks from its start on.
 pub fn none_counted_none_meet()
     ensures { NoneCountedNoneMeet }
+{}
+
+/// In a calm tick nothing happens: it has no event.
+pub fn calm_ticks_are_quiet()
+    ensures { CalmTicksAreQuiet }
 {}

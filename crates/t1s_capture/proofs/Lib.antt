@@ -15,6 +15,7 @@ pub mod Feeding
 mod Advancing
 pub mod Rows
 pub mod Cuts
+pub mod QuietRows
 pub mod CutItems
 pub mod CutRows
 pub mod Beyond

@@ -1,9 +1,10 @@
 -- What a writer keeps of the ticks so far, and what it gives out: its own table.
-use Rattle.std.specs.Prelude.{◌≡◌, ℕ, ◌+◌, ◌≤◌, ◌==◌, ◌&&◌, Bool, true, false, List, [], ◌∷◌, ◌++◌, Option, None, Some, Result, Ok, Err, if◌then◌else◌}
+use Rattle.std.specs.Prelude.{◌≡◌, ℕ, ◌+◌, ◌≤◌, ◌==◌, ◌&&◌, Bool, true, false, List, [], ◌∷◌, ◌++◌, replicate, Option, None, Some, Result, Ok, Err, if◌then◌else◌}
 use Rattle.std.specs.List.{flat_map}
 use Rattle.t1s_base.specs.Limits.{most_ticks}
 use Rattle.t1s_symbols.specs.declared.Symbol.{Symbol}
 use Rattle.t1s_symbols.specs.declared.Quarter.{Quarter}
+use Rattle.t1s_symbols.specs.declared.Heard.TheVariants.{Nothing}
 use Rattle.t1s_symbols.specs.GroupTable.{group}
 use Rattle.t1s_symbols.specs.Quarters.{continues_last}
 use Rattle.t1s_grammar.specs.PlaceTable.{start_phase, place_step, ends_burst}
@@ -101,6 +102,10 @@ row_from step (t ∷ ts) = row_from ((row_step step.0 t).0, step.1 ++ (row_step 
 
 abbrev pub row_after : List Tick → Step
 row_after ticks = row_from (Empty, []) ticks
+
+-- so many ticks in which nothing is heard and the node doesn't drive
+abbrev pub quiet_ticks : ℕ → List Tick
+quiet_ticks n = replicate n (Nothing, false)
 
 -- a row that is kept as silent, or as not
 abbrev pub IsKind : Bool → RowSoFar → Type 0

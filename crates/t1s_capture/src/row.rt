@@ -1,10 +1,10 @@
 //! The row of ticks that a writer is in: a gap, or a burst that it reads.
-ghost use Rattle.std.specs.Prelude.{◌≡◌, ◌≤◌, ◌+◌, ◌<◌, ◌∷◌, ℕ, IfSome};
+ghost use Rattle.std.specs.Prelude.{◌≡◌, ◌≤◌, ◌+◌, ◌<◌, [], ◌∷◌, ℕ, IfSome};
 ghost use Rattle.t1s_base.specs.Limits.{most_ticks};
 ghost use Rattle.t1s_symbols.specs.Ranges.{IsSymbol, IsQuarter};
 ghost use Rattle.t1s_grammar.specs.PlaceTable.{place_step};
 ghost use Rattle.t1s_capture.specs.Captures.{count_octets};
-ghost use Rattle.t1s_capture.specs.WriterTable.{reading_step, quarter_step, symbol_ends, ticks_begun, nothing_read, reading_end, row_end, sound_step, silent_step, RowFits};
+ghost use Rattle.t1s_capture.specs.WriterTable.{reading_step, quarter_step, symbol_ends, ticks_begun, nothing_read, reading_end, row_end, row_from, sound_step, quiet_ticks, RowFits};
 
 use crate::format::{GAP, TORN};
 use crate::octets::Octets;
@@ -129,17 +129,19 @@ impl RowSoFar {
         }
     }
 
-    /// A silent tick.
-    pub fn hears_silence(self) -> (RowSoFar, Octets)
-        requires { RowFits most_ticks self }
-        ensures step { result ≡ silent_step self }
-        ensures fits { (ticks : ℕ) → RowFits ticks self → RowFits (ticks + 1) result.0 }
+    /// So many silent ticks, one after another: the first ends a burst, and the others only count.
+    pub fn hears_silence(self, ticks: u32) -> (RowSoFar, Octets)
+        requires some { 1 ≤ ticks }
+        requires few { ticks ≤ most_ticks }
+        requires row_fits { RowFits most_ticks self }
+        ensures step { result ≡ row_from (self, []) (quiet_ticks ticks) }
+        ensures fits { (before : ℕ) → RowFits before self → RowFits (before + ticks) result.0 }
     {
         match self {
-            RowSoFar::Empty => (RowSoFar::Silent(1), Octets::new()),
-            RowSoFar::Silent(ticks) => (RowSoFar::Silent(ticks + 1), Octets::new()),
-            RowSoFar::Reading(reading) => (RowSoFar::Silent(1), reading.end()),
-            RowSoFar::Torn(blur) => (RowSoFar::Silent(1), Octets::counted(TORN, blur)),
+            RowSoFar::Empty => (RowSoFar::Silent(ticks), Octets::new()),
+            RowSoFar::Silent(before) => (RowSoFar::Silent(before + ticks), Octets::new()),
+            RowSoFar::Reading(reading) => (RowSoFar::Silent(ticks), reading.end()),
+            RowSoFar::Torn(blur) => (RowSoFar::Silent(ticks), Octets::counted(TORN, blur)),
         }
     }
 

@@ -33,11 +33,11 @@ impl Model for CaptureWriter {
 
 impl CaptureWriter {
     ghost use Rattle.t1s_base.specs.Limits.{most_nodes, most_ticks};
-    ghost use Rattle.std.specs.Prelude.{◌≡◌, ◌+◌, ◌<◌, ℕ, List, [], ◌∷◌, ◌++◌};
+    ghost use Rattle.std.specs.Prelude.{◌≡◌, ◌≤◌, ◌+◌, ◌<◌, ℕ, List, [], ◌∷◌, ◌++◌};
     ghost use Rattle.t1s_symbols.specs.Ranges.{IsHeard};
     ghost use Rattle.t1s_capture.specs.Captures.{header, capture_text};
     ghost use Rattle.t1s_capture.specs.Cut.{Tick, cut};
-    ghost use Rattle.t1s_capture.specs.WriterTable.{WriterStands, row_step, row_end};
+    ghost use Rattle.t1s_capture.specs.WriterTable.{WriterStands, row_step, row_from, row_end, quiet_ticks};
     ghost use Rattle.t1s_capture.specs.declared.row.RowSoFar.TheVariants.{Empty};
 
     /// A writer for this node, whose number is below 16. No tick has been handed in.
@@ -74,10 +74,31 @@ impl CaptureWriter {
         requires fewer { self.old.ticks < most_ticks }
         ensures node { self.new.node ≡ self.old.node }
         ensures ticks { self.new.ticks ≡ self.old.ticks + 1 }
+        ensures steps { (self.new.row, result) ≡ row_step self.old.row (h, own) }
         ensures stands { (ticks : List Tick) (given : List ℕ) → WriterStands ticks given self.old
             → WriterStands (ticks ++ (h, own) ∷ []) (given ++ result) self.new }
     {
         self.go_on(h, own)
+    }
+
+    /// Takes n ticks at once, at least one, in which nothing is heard and the node does not drive; with the ticks that
+    /// were handed in before they are at most 2,000,000. It gives the octets, and leaves the writer, of as many calls of
+    /// `heard` together, in a time that does not grow with n. It has no refusals.
+    pub fn quiet(&mut self, n: u64) -> Octets
+        requires some { 1 ≤ n }
+        requires fewer { self.old.ticks + n ≤ most_ticks }
+        ensures node { self.new.node ≡ self.old.node }
+        ensures ticks { self.new.ticks ≡ self.old.ticks + n }
+        ensures steps { (self.new.row, result) ≡ row_from (self.old.row, []) (quiet_ticks n) }
+        ensures stands { (ticks : List Tick) (given : List ℕ) → WriterStands ticks given self.old
+            → WriterStands (ticks ++ quiet_ticks n) (given ++ result) self.new }
+    {
+        let ticks = n as u32;
+        let row = replace(&mut self.row, RowSoFar::Empty);
+        let (row, octets) = row.hears_silence(ticks);
+        self.row = row;
+        self.ticks += ticks;
+        octets
     }
 
     /// The last octets, `21` after what the row of the last tick still owes. The header, the octets that were given out
@@ -115,7 +136,7 @@ impl CaptureWriter {
     {
         let row = replace(&mut self.row, RowSoFar::Empty);
         let (row, octets) = match h {
-            Heard::Nothing => row.hears_silence(),
+            Heard::Nothing => row.hears_silence(1),
             Heard::One(quarter) if !own => row.hears_sound(Some(quarter)),
             _ => row.hears_sound(None),
         };

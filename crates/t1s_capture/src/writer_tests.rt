@@ -40,6 +40,13 @@ fn hear(
     }
 }
 
+/// Hands in so many quiet ticks at once.
+fn quiet(rt: &impl Abort, writer: &mut CaptureWriter, tape: &mut Tape, n: u64) {
+    assert!(rt; 1 <= n && n <= 2_000_000);
+    assert!(rt; u64::from(writer.ticks()) + n <= 2_000_000);
+    put(tape, writer.quiet(n).as_slice());
+}
+
 /// Hands in the four ticks of a symbol, so many times.
 fn hear_symbol(
     rt: &impl Abort,
@@ -168,5 +175,73 @@ fn a_row_is_torn_by_a_misplaced_symbol_and_by_its_end(rt: HostRuntime) {
         tape,
         27,
         b"T1SC\x01\x0F\x18\x22\x00\x00\x00\x08\x20\x00\x00\x00\x03\x18\x18\x04\x22\x00\x00\x00\x00\x21",
+    );
+}
+
+/// A writer at its beginning, in a gap, after a burst, within a symbol of a burst, or after something that cannot be read.
+fn writer_in(rt: &impl Abort, case: u32) -> (CaptureWriter, Tape) {
+    let (mut writer, mut tape) = started(rt, 3);
+    match case {
+        0 => {}
+        1 => hear(rt, &mut writer, &mut tape, Heard::Nothing, true, 7),
+        2 => hear_symbol(rt, &mut writer, &mut tape, Symbol::N, 5),
+        3 => {
+            let sym = Symbol::J;
+            hear_symbol(rt, &mut writer, &mut tape, sym, 2);
+            let first = Heard::One(Quarter { sym, part: 0 });
+            hear(rt, &mut writer, &mut tape, first, false, 1);
+        }
+        _ => hear(rt, &mut writer, &mut tape, Heard::Many, false, 3),
+    }
+    (writer, tape)
+}
+
+/// The text of a writer that goes on with a beacon, before which the gap is written.
+fn text_of(rt: &impl Abort, writer: CaptureWriter, tape: Tape) -> Tape {
+    let (mut writer, mut tape) = (writer, tape);
+    hear_symbol(rt, &mut writer, &mut tape, Symbol::N, 5);
+    put(&mut tape, writer.finish().as_slice());
+    tape
+}
+
+#[test]
+fn quiet_ticks_give_the_same_at_once_as_one_by_one(rt: HostRuntime) {
+    for case in 0..5 {
+        for n in [1, 2, 255, 70_000] {
+            let (mut at_once, mut tape) = writer_in(&rt, case);
+            quiet(&rt, &mut at_once, &mut tape, u64::from(n));
+            let (mut one_by_one, mut want) = writer_in(&rt, case);
+            hear(&rt, &mut one_by_one, &mut want, Heard::Nothing, false, n);
+            assert_eq!(rt; tape.as_slice(), want.as_slice());
+            assert_eq!(rt; at_once.ticks(), one_by_one.ticks());
+            let text = text_of(&rt, at_once, tape);
+            let wanted = text_of(&rt, one_by_one, want);
+            assert_eq!(rt; text.as_slice(), wanted.as_slice());
+        }
+    }
+}
+
+#[test]
+fn quiet_stretches_are_gaps(rt: HostRuntime) {
+    let (mut writer, mut tape) = started(&rt, 2);
+    quiet(&rt, &mut writer, &mut tape, 8261);
+    hear_symbol(&rt, &mut writer, &mut tape, Symbol::N, 5);
+    quiet(&rt, &mut writer, &mut tape, 1);
+    quiet(&rt, &mut writer, &mut tape, 18);
+    check(
+        &rt,
+        writer,
+        tape,
+        8300,
+        b"T1SC\x01\x02\x20\x00\x00\x20\x45\x08\x08\x08\x08\x08\x20\x00\x00\x00\x13\x21",
+    );
+    let (mut writer, mut tape) = started(&rt, 0);
+    quiet(&rt, &mut writer, &mut tape, 2_000_000);
+    check(
+        &rt,
+        writer,
+        tape,
+        2_000_000,
+        b"T1SC\x01\x00\x20\x00\x1E\x84\x80\x21",
     );
 }

@@ -8,8 +8,8 @@ use Rattle.std.proofs.lemmas.Bool.Decides.{nat_tests}
 use Rattle.t1s_script.specs.declared.script.Act.{Act}
 use Rattle.t1s_script.specs.declared.script.Deed.{Deed}
 use Rattle.t1s_script.specs.declared.script.Deed.TheVariants.{Offer as OfferDeed, Noise}
-use Rattle.t1s_line.specs.Acts.{Offer, offer_of, offers_at, is_noise_in, is_noisy}
-use Rattle.t1s_segment.specs.Upcoming.{AreComing, next_due, after_due, offers_of, noise_end}
+use Rattle.t1s_line.specs.Acts.{Offer, offer_of, offers_at, has_act, is_noise_in, is_noisy}
+use Rattle.t1s_segment.specs.Upcoming.{AreComing, next_due, after_due, free_ticks, offers_of, noise_end}
 
 -- acts in the order of their ticks
 pub coming_first : (t : ℕ) (acts : List Act) → IsNonDecreasing (map (λ (a : Act). a.tick) acts) → (0 < length acts → t ≤ get_or (map (λ (a : Act). a.tick) acts) 0 0) → AreComing t acts
@@ -44,6 +44,18 @@ offers_due a acts u e = rw (eq-eqb a.tick u e) (one_offer (offer_of a.deed) (off
 pub offers_other : (a : Act) (acts : List Act) (u : ℕ) → (a.tick ≡ u → ⊥) → offers_at (a ∷ acts) u ≡ offers_at acts u
 unfolding offers_at
 offers_other a acts u ne = let b : eqb a.tick u ≡ false = search (rules, nat_tests) in rw b refl
+
+pub act_none : (u : ℕ) → has_act [] u ≡ false
+unfolding has_act
+act_none u = refl
+
+pub act_here : (a : Act) (acts : List Act) (u : ℕ) → a.tick ≡ u → has_act (a ∷ acts) u ≡ true
+unfolding has_act
+act_here a acts u e = rw (eq-eqb a.tick u e) refl
+
+pub act_other : (a : Act) (acts : List Act) (u : ℕ) → (a.tick ≡ u → ⊥) → has_act (a ∷ acts) u ≡ has_act acts u
+unfolding has_act
+act_other a acts u ne = let b : eqb a.tick u ≡ false = search (rules, nat_tests) in rw b refl
 
 pub noisy_none : (u : ℕ) → is_noisy [] u ≡ false
 unfolding is_noisy
@@ -81,6 +93,11 @@ pub no_offers : (t u : ℕ) (acts : List Act) → u < t → AreComing t acts →
 no_offers t u [] lt coming = offers_none u
 no_offers t u (a ∷ acts) lt coming =
     offers_other a acts u (λ e. omega (arith, coming.0, e)) ∙ no_offers a.tick u acts (omega (arith, coming.0)) coming.1
+
+pub no_acts : (t u : ℕ) (acts : List Act) → u < t → AreComing t acts → has_act acts u ≡ false
+no_acts t u [] lt coming = act_none u
+no_acts t u (a ∷ acts) lt coming =
+    act_other a acts u (λ e. omega (arith, coming.0, e)) ∙ no_acts a.tick u acts (omega (arith, coming.0)) coming.1
 
 pub no_noise : (t u : ℕ) (acts : List Act) → u < t → AreComing t acts → is_noisy acts u ≡ false
 no_noise t u [] lt coming = noisy_none u
@@ -121,3 +138,16 @@ none_due t (a ∷ acts) e coming = elim (cases_eq a.tick t) [
       let b : eqb a.tick t ≡ false = search (rules, nat_tests) in
       (rw b refl, (omega (arith, coming.0, other), coming.1))
 ]
+
+-- the ticks before it are free, and where they are fewer than asked for, it comes then
+pub free_coming : (t most n : ℕ) (acts : List Act) → n ≤ free_ticks t most acts → AreComing t acts → AreComing (t + n) acts
+free_coming t most n [] le coming = tt
+free_coming t most n (a ∷ acts) le coming = (omega (arith, coming.0, le), coming.1)
+
+pub free_ends : (t most n : ℕ) (acts : List Act) → n ≡ free_ticks t most acts → AreComing t acts → n < most → has_act acts (t + n) ≡ true
+free_ends t most n [] is coming lt = absurd (omega (arith, is, lt))
+free_ends t most n (a ∷ acts) is coming lt = act_here a acts (t + n) (omega (arith, coming.0, is, lt))
+
+pub free_within : (t most : ℕ) (acts : List Act) → free_ticks t most acts ≤ most
+free_within t most [] = omega arith
+free_within t most (a ∷ acts) = omega arith

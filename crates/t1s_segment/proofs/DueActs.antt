@@ -7,13 +7,13 @@ use Rattle.t1s_script.specs.declared.script.Act.{Act}
 use Rattle.t1s_script.specs.declared.script.Deed.{Deed}
 use Rattle.t1s_line.specs.declared.offers.OfferState.{OfferState}
 use Rattle.t1s_line.specs.declared.totals.NodeTotals.{NodeTotals}
-use Rattle.t1s_line.specs.Acts.{Offer, offers_at, is_noisy}
+use Rattle.t1s_line.specs.Acts.{Offer, offers_at, has_act, is_noisy}
 use Rattle.t1s_line.specs.EventRecords.{EventRecord}
 use Rattle.t1s_line.specs.Offers.{OfferRecord, after_offers, after_records, offer_event, records_of}
 use Rattle.t1s_line.specs.Outcomes.{NodePhases}
 use Rattle.t1s_line.specs.Totals.{after_refusals}
 use Rattle.t1s_segment.specs.Upcoming.{AreComing, next_due, after_due, offers_of, noise_end}
-use Rattle.t1s_segment.proofs.ActSteps.{IsDue, due, offers_due, offers_other, noise_done}
+use Rattle.t1s_segment.proofs.ActSteps.{IsDue, due, offers_due, offers_other, act_other, noise_done}
 use Rattle.t1s_segment.proofs.OfferSteps.{after_offers-append, records_of-append, after_refusals-append, after_records-append}
 
 module _ (t : ℕ) (upcoming : List Act) (deed : Deed) (next : next_due t upcoming ≡ Some deed) where
@@ -35,6 +35,11 @@ module _ (t : ℕ) (upcoming : List Act) (deed : Deed) (next : next_due t upcomi
   later_offers u lt =
       let tick = found.tick in
       sym (ap (λ (acts : List Act). offers_at acts u) found.acts_are ∙ offers_other found.act rest u (λ e. omega (arith, tick, e, lt)))
+
+  pub later_acts : (u : ℕ) → t < u → has_act rest u ≡ has_act upcoming u
+  later_acts u lt =
+      let tick = found.tick in
+      sym (ap (λ (acts : List Act). has_act acts u) found.acts_are ∙ act_other found.act rest u (λ e. omega (arith, tick, e, lt)))
 
   pub later_noise : (u until : ℕ) → t ≤ u → (is_noisy rest u || ltb u (max until (noise_end deed))) ≡ (is_noisy upcoming u || ltb u until)
   later_noise u until le =

@@ -6,3 +6,7 @@ pub mod DueActs
 pub mod OfferedTicks
 pub mod PhaseSteps
 pub mod Playing
+pub mod Stretches
+pub mod Passing
+pub mod NodeStretches
+pub mod EngineStretches

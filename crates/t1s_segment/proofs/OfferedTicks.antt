@@ -20,7 +20,7 @@ use Rattle.t1s_segment.specs.Numbers.{AreNumbered}
 use Rattle.t1s_segment.specs.State.{two_phases, under_noise}
 use Rattle.t1s_segment.proofs.OfferSteps.{map_same}
 
-map_self : {X : Type 0} (f : X → X) → ((x : X) → f x ≡ x) → (xs : List X) → map f xs ≡ xs
+pub map_self : {X : Type 0} (f : X → X) → ((x : X) → f x ≡ x) → (xs : List X) → map f xs ≡ xs
 map_self f same [] = refl
 map_self f same (x ∷ xs) = let e = same x in let rest = map_self f same xs in rw (e, rest) refl
 

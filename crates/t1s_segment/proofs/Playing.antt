@@ -20,7 +20,7 @@ use Rattle.t1s_script.specs.declared.script.Act.{Act}
 use Rattle.t1s_script.specs.declared.script.NodeLine.{NodeLine}
 use Rattle.t1s_line.specs.declared.offers.OfferState.TheVariants.{Unknown}
 use Rattle.t1s_line.specs.declared.totals.NodeTotals.{NodeTotals}
-use Rattle.t1s_line.specs.Acts.{is_noisy, offers_at}
+use Rattle.t1s_line.specs.Acts.{has_act, is_noisy, offers_at}
 use Rattle.t1s_line.specs.EventRecords.{EventRecord}
 use Rattle.t1s_line.specs.Offers.{OfferRecord, after_leaves, after_offers, after_records, first_state, offer_event, records_of}
 use Rattle.t1s_line.specs.Outcomes.{DriveOutcome, HearOutcome, NodePhases, machine_with}
@@ -69,6 +69,7 @@ module _ {N : Type 0} (p : NodePhases N) where
     pub end : h.end ≡ g.end
     pub places : h.cable.places ≡ g.cable.places
     pub coming : AreComing g.tick g.upcoming → AreComing (g.tick + 1) h.upcoming
+    pub due : AreComing g.tick g.upcoming → (u : ℕ) → g.tick < u → has_act h.upcoming u ≡ has_act g.upcoming u
     pub offers : AreComing g.tick g.upcoming → (u : ℕ) → g.tick < u → offers_at h.upcoming u ≡ offers_at g.upcoming u
     pub noise : AreComing g.tick g.upcoming → (u : ℕ) → g.tick ≤ u → (is_noisy h.upcoming u || ltb u h.noise_until) ≡ (is_noisy g.upcoming u || ltb u g.noise_until)
     pub drives_on : Awaits g → (past : List (List (Option Quarter))) → CableStands (no_puts g.cable.places ∷ past) g.cable → CableStands (row_of (two_phases p) g.tick (given g) ∷ past) driven_on
@@ -91,6 +92,7 @@ module _ {N : Type 0} (p : NodePhases N) where
           places = places;
           numbered = numbered;
           coming = rw upcoming (coming_first 0 acts order (λ some. omega arith));
+          due = λ u le. rw upcoming refl;
           offers = λ u le. rw upcoming refl;
           noise = λ u le. rw (upcoming, quiet) (no_noise_yet (is_noisy acts u) u);
           nodes = nodes ∙ sym (ap (λ (q : Past N). q.nodes) start);
@@ -183,6 +185,7 @@ module _ {N : Type 0} (p : NodePhases N) where
               places = ticked.places ∙ plays.places;
               numbered = plays.numbered;
               coming = subst (λ (u : ℕ). AreComing (u + 1) h.upcoming) plays.tick (ticked.coming awaits.coming);
+              due = λ u le. ticked.due awaits.coming u (omega (arith, plays.tick, le)) ∙ plays.due u (omega (arith, le));
               offers = λ u le. ticked.offers awaits.coming u (omega (arith, plays.tick, le)) ∙ plays.offers u (omega (arith, le));
               noise = λ u le. ticked.noise awaits.coming u (omega (arith, plays.tick, le)) ∙ plays.noise u (omega (arith, le));
               nodes = rw add-one (ticked.nodes awaits history keeps ∙ nodes_is);

@@ -7,7 +7,7 @@ use Rattle.t1s_script.specs.declared.script.Act.{Act}
 use Rattle.t1s_script.specs.declared.script.Script.{Script}
 use Rattle.t1s_script.specs.declared.script.NodeLine.{NodeLine}
 use Rattle.t1s_line.specs.declared.offers.OfferState.TheVariants.{Unknown}
-use Rattle.t1s_line.specs.Acts.{is_noisy, offers_at}
+use Rattle.t1s_line.specs.Acts.{has_act, is_noisy, offers_at}
 use Rattle.t1s_line.specs.Outcomes.{NodePhases, machine_with}
 use Rattle.t1s_line.specs.Runs.{heard_below, nodes_in, places_in, settled_in, state_in, totals_in}
 use Rattle.t1s_line.specs.Track.{track_phases}
@@ -26,6 +26,7 @@ pub record Plays {N : Type 0} (p : NodePhases N) (acts : List Act) (lines : List
   pub places : g.cable.places ≡ places_in lines
   pub numbered : AreNumbered p lines first
   pub coming : AreComing t g.upcoming
+  pub due : (u : ℕ) → t ≤ u → has_act g.upcoming u ≡ has_act acts u
   pub offers : (u : ℕ) → t ≤ u → offers_at g.upcoming u ≡ offers_at acts u
   pub noise : (u : ℕ) → t ≤ u → (is_noisy g.upcoming u || nat_lt u g.noise_until) ≡ is_noisy acts u
   pub nodes : g.nodes ≡ nodes_in p acts lines first t

@@ -1,5 +1,5 @@
 -- The acts that are still to come, act by act.
-use Rattle.std.specs.Prelude.{ℕ, ◌==◌, ◌≤◌, ⊤, All, IfSome, List, [], ◌∷◌, Option, None, Some, if◌then◌else◌}
+use Rattle.std.specs.Prelude.{ℕ, ◌==◌, ◌-◌, ◌≤◌, min, ⊤, All, IfSome, List, [], ◌∷◌, Option, None, Some, if◌then◌else◌}
 use Rattle.std.specs.Option.{option_to_list}
 use Rattle.t1s_script.specs.Script.{offer_number}
 use Rattle.t1s_script.specs.declared.script.Act.{Act}
@@ -21,6 +21,11 @@ next_due t (a ∷ acts) = if a.tick == t then Some a.deed else None
 abbrev pub after_due : ℕ → List Act → List Act
 after_due t [] = []
 after_due t (a ∷ acts) = if a.tick == t then acts else a ∷ acts
+
+-- how many ticks from tick t on come before the next act, at most so many
+abbrev pub free_ticks : ℕ → ℕ → List Act → ℕ
+free_ticks t most [] = most
+free_ticks t most (a ∷ acts) = min (a.tick - t) most
 
 -- the frame that an act offers, if it does, and the tick up to which it makes noise
 abbrev pub offers_of : Deed → List Offer

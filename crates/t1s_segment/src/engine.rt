@@ -2,6 +2,7 @@
 ghost use Rattle.std.specs.Prelude.{◌≡◌};
 ghost use Rattle.t1s_segment.specs.State.{settled_after};
 
+use crate::calm::{nodes_calm_for, pass_all};
 use crate::machine::NodeMachine;
 use crate::offer_phase::offer_all;
 use crate::offer_states::{first_states, wait_of};
@@ -75,7 +76,7 @@ fn settled_after(settled: Option<u64>, tick: u64, ok: bool) -> Option<u64>
 }
 
 impl<N: NodeMachine + Drop> Engine<N> {
-    ghost use Rattle.std.specs.Prelude.{◌≡◌, ℕ, ◌+◌, ◌<◌, ◌≤◌, ◌==◌, List, length, map, find, IfOk, IfSome, IsTrue, ◌↔◌};
+    ghost use Rattle.std.specs.Prelude.{◌≡◌, ℕ, ◌+◌, ◌<◌, ◌≤◌, ◌==◌, All, List, length, map, find, IfOk, IfSome, IsTrue, ◌↔◌};
     ghost use Rattle.std.specs.List.Sorted.{IsNonDecreasing};
     ghost use Rattle.t1s_base.specs.Limits.{most_nodes};
     ghost use Rattle.t1s_symbols.specs.Ranges.{IsHeard};
@@ -86,7 +87,9 @@ impl<N: NodeMachine + Drop> Engine<N> {
     ghost use Rattle.t1s_line.specs.Offers.{wait_of};
     ghost use Rattle.t1s_line.specs.Runs.{events_in, last_heard_in, state_in};
     ghost use Rattle.t1s_segment.specs.Numbers.{AreNumbered};
+    ghost use Rattle.t1s_line.specs.CalmRuns.{HasCalmTicks, IsCalmIn};
     ghost use Rattle.t1s_segment.specs.Stands.{Plays, ticks_left};
+    ghost use Rattle.t1s_segment.specs.Stretches.{IsStretch};
 
     /// The run of these nodes, which stand in these lines of a script one by one, among these acts in the order of their
     /// ticks, before its first tick. It takes all other memory of the run.
@@ -183,6 +186,58 @@ impl<N: NodeMachine + Drop> Engine<N> {
         );
         self.cable.turn();
         self.tick = tick + 1;
+    }
+
+    /// For how many ticks from `now()` on, up to `most` and up to the end, nothing happens: no noise lasts and no act comes, all
+    /// nodes are calm, and nothing on the cable reaches one. What is most often not so is looked at first.
+    fn calm_for(&self, most: u64) -> u64
+        ensures { IsStretch N.phases N.calm self.now most result }
+    {
+        if self.tick < self.noise_until {
+            return 0;
+        }
+        let most = most.min(self.end - self.tick);
+        let calm = nodes_calm_for(self.nodes.as_slice(), self.tick, most);
+        if calm == 0 {
+            return 0;
+        }
+        let free = self.upcoming.free_for(self.tick, calm);
+        let silent = self.cable.calm_for(free);
+        silent
+    }
+
+    /// Plays the ticks from `now()` on in which nothing happens, up to `most` and up to the end, at once, and answers how many
+    /// these are. It takes no memory, and its time does not grow with them.
+    pub fn skip(&mut self, most: u64) -> u64
+        requires { 0 < ticks_left self.old }
+        ensures left { ticks_left self.new + result ≡ ticks_left self.old }
+        ensures none { result ≡ 0 → self.new ≡ self.old }
+        ensures within { result ≤ most }
+        ensures plays { (acts : List Act) (lines : List NodeLine) (first : List N) (end t : ℕ) →
+            HasCalmTicks N.phases N.holds N.calm N.passed → All N.holds first → 1 ≤ length lines →
+            Plays N.phases acts lines first end t self.old → Plays N.phases acts lines first end (t + result) self.new }
+        ensures calm { (acts : List Act) (lines : List NodeLine) (first : List N) (end t : ℕ) →
+            HasCalmTicks N.phases N.holds N.calm N.passed → All N.holds first → 1 ≤ length lines →
+            Plays N.phases acts lines first end t self.old →
+            (k : ℕ) → t ≤ k → k < t + result → IsCalmIn N.phases N.calm acts lines first k }
+        ensures ends { (acts : List Act) (lines : List NodeLine) (first : List N) (end t : ℕ) →
+            HasCalmTicks N.phases N.holds N.calm N.passed → All N.holds first → 1 ≤ length lines →
+            Plays N.phases acts lines first end t self.old →
+            result < most → t + result < end → IsCalmIn N.phases N.calm acts lines first (t + result) → ⊥ }
+    {
+        let n = self.calm_for(most);
+        if n == 0 {
+            return 0;
+        }
+        pass_all(
+            self.nodes.as_mut_slice(),
+            self.heard.as_mut_slice(),
+            self.tick,
+            n,
+        );
+        self.cable.pass(n);
+        self.tick += n;
+        n
     }
 
     /// What the node with this number heard in the last tick that was played, and whether it drove in it. None where

@@ -9,6 +9,7 @@
 //! of their machine. A segment is the engine over the nodes of a script, which `track.rt` makes machines.
 #![tactic(auto)]
 
+mod calm;
 mod engine;
 mod machine;
 mod offer_phase;

@@ -34,13 +34,24 @@ pub struct HearReport {
 /// A node as an engine plays it. What an offer and the two phases of a tick leave of it, and what comes of them, is a
 /// machine of the world.
 pub trait NodeMachine {
-    ghost use Rattle.std.specs.Prelude.{◌≡◌, IfSome};
+    ghost use Rattle.std.specs.Prelude.{◌≡◌, ℕ, IfSome};
+    ghost use Rattle.t1s_symbols.specs.CalmSteps.{AreCalm, IsCalmFor};
     ghost use Rattle.t1s_symbols.specs.Ranges.{IsHeard, IsQuarter};
     ghost use Rattle.t1s_world.specs.Events.{SeesEvents};
     ghost use Rattle.t1s_line.specs.Outcomes.{NodePhases};
+    ghost use Rattle.t1s_line.specs.CalmRuns.{IsCalmAt, silent_step};
     ghost use Rattle.t1s_segment.specs.State.{arrival_kind};
 
     ghost phases: { NodePhases Self };
+
+    // what holds of each node in a run
+    ghost holds: { Self → Type 0 };
+
+    // a tick in which nothing is offered to the node and it hears nothing is calm for it
+    ghost calm: { ℕ → Self → Type 0 };
+
+    // what is left of a node that passes calm ticks: from which tick on, and how many
+    ghost passed: { ℕ → ℕ → Self → Self };
 
     /// An offer in a tick, before its drive phase: the frame stands at the back of the node's queue, or is refused.
     fn offer(&mut self, tick: u64, queued: Queued) -> OfferOutcome
@@ -67,4 +78,13 @@ pub trait NodeMachine {
         ensures arrival { result.arrival ≡ arrival_kind (phases.hear tick heard self.old).1.event }
         ensures range { IsHeard result.heard }
         ensures events { SeesEvents W.sees watch.old (phases.hear tick heard self.old).1.events watch.new };
+
+    /// For how many ticks from this one on, up to `most`, the node is calm where it is offered nothing and hears nothing.
+    fn calm_for(&self, tick: u64, most: u64) -> u64
+        ensures { IsCalmFor (silent_step phases) (IsCalmAt calm) (tick, self.now) most result };
+
+    /// So many such ticks, this one first, at once. It asks that all of them are calm.
+    fn pass(&mut self, tick: u64, n: u64)
+        requires { AreCalm (silent_step phases) (IsCalmAt calm) (tick, self.old) n }
+        ensures { self.new ≡ passed tick n self.old };
 }

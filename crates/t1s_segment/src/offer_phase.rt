@@ -2,7 +2,7 @@
 ghost use Rattle.std.specs.Prelude.{◌≡◌, ◌≤◌, ◌<◌, ◌+◌, ◌||◌, ℕ, nat_lt, max, [], ◌∷◌, length, map, get_or};
 ghost use Rattle.t1s_world.specs.Events.{SeesEvents};
 ghost use Rattle.t1s_line.specs.declared.offers.OfferState.TheVariants.{Unknown};
-ghost use Rattle.t1s_line.specs.Acts.{is_noisy, offers_at};
+ghost use Rattle.t1s_line.specs.Acts.{has_act, is_noisy, offers_at};
 ghost use Rattle.t1s_line.specs.Offers.{after_offers, after_records, offer_event, records_of};
 ghost use Rattle.t1s_line.specs.Totals.{after_refusals};
 ghost use Rattle.t1s_segment.specs.Numbers.{AwaitActs, HaveTotals};
@@ -113,6 +113,7 @@ pub fn offer_all<N: NodeMachine, W: Watch>(
     ensures events { AwaitActs N.phases tick nodes.old totals.old upcoming.old →
         SeesEvents W.sees watch.old (map offer_event (records_of N.phases tick (offers_at upcoming.old tick) nodes.old)) watch.new }
     ensures coming { AreComing tick upcoming.old → AreComing (tick + 1) upcoming.new }
+    ensures due { AreComing tick upcoming.old → (u : ℕ) → tick < u → has_act upcoming.new u ≡ has_act upcoming.old u }
     ensures offers { AreComing tick upcoming.old → (u : ℕ) → tick < u → offers_at upcoming.new u ≡ offers_at upcoming.old u }
     ensures noise { AreComing tick upcoming.old → (u : ℕ) → tick ≤ u →
         (is_noisy upcoming.new u || nat_lt u result) ≡ (is_noisy upcoming.old u || nat_lt u noise_until) }

@@ -22,13 +22,14 @@ impl Model for Segment {
 }
 
 impl Segment {
-    ghost use Rattle.std.specs.Prelude.{◌≡◌, ℕ, ◌+◌, ◌<◌, ◌==◌, find, IfOk, IfSome, IsTrue, ◌↔◌};
+    ghost use Rattle.std.specs.Prelude.{◌≡◌, ℕ, ◌+◌, ◌<◌, ◌≤◌, ◌==◌, [], find, IfOk, IfSome, IsTrue, ◌↔◌};
     ghost use Rattle.t1s_symbols.specs.Ranges.{IsHeard};
     ghost use Rattle.t1s_world.specs.Events.{SeesEvents};
     ghost use Rattle.t1s_script.specs.Fit.{IsFit};
     ghost use Rattle.t1s_script.specs.Script.{IsScript};
     ghost use Rattle.t1s_script.specs.declared.script.Script.{Script};
     ghost use Rattle.t1s_line.specs.declared.totals.NodeTotals.{NodeTotals};
+    ghost use Rattle.t1s_line.specs.CalmTicks.{IsCalm};
     ghost use Rattle.t1s_line.specs.World.{events_at, last_heard, settled_below, totals_below, wait_below};
     ghost use Rattle.t1s_schedule.specs.ScheduledRun.{SharesLine};
     ghost use Rattle.t1s_delivery.specs.Delivered.{IsDelivered};
@@ -77,6 +78,25 @@ impl Segment {
         ensures delivers { (s : Script) (t : ℕ) → Stands s t self.old → IsFit s → IsDelivered s (t + 1) }
     {
         self.engine.tick(watch);
+    }
+
+    /// Plays the calm ticks from `now()` on, up to `most` and up to the end, at once, and answers how many these are: in a calm tick no
+    /// act comes, no noise lasts and no node starts, nothing is driven and nothing reaches a node, and to no node happens anything but
+    /// that its machines count. So there is nothing to tell a watch. Where it answers 0, it changes nothing. It takes no memory, and
+    /// its time does not grow with the number of ticks.
+    pub fn skip(&mut self, most: u64) -> u64
+        requires { 0 < ticks_left self.old }
+        ensures left { ticks_left self.new + result ≡ ticks_left self.old }
+        ensures none { result ≡ 0 → self.new ≡ self.old }
+        ensures within { result ≤ most }
+        ensures stands { (s : Script) (t : ℕ) → Stands s t self.old → Stands s (t + result) self.new }
+        ensures calm { (s : Script) (t : ℕ) → Stands s t self.old → (k : ℕ) → t ≤ k → k < t + result → IsCalm s k }
+        ensures ends { (s : Script) (t : ℕ) → Stands s t self.old → result < most → t + result < s.end → IsCalm s (t + result) → ⊥ }
+        ensures quiet { (s : Script) (t : ℕ) → Stands s t self.old → (k : ℕ) → t ≤ k → k < t + result → events_at s k ≡ [] }
+        ensures shares_line { (s : Script) (t : ℕ) → Stands s t self.old → IsFit s → SharesLine s (t + result) }
+        ensures delivers { (s : Script) (t : ℕ) → Stands s t self.old → IsFit s → IsDelivered s (t + result) }
+    {
+        self.engine.skip(most)
     }
 
     /// What the node with this number heard in the last tick that was played, and whether it drove in it:
@@ -200,6 +220,64 @@ mod tests {
         assert_eq!(rt; segment.heard(0), Some((beacon(0), true)));
         assert_eq!(rt; segment.heard(7), Some((beacon(0), true)));
         assert_eq!(rt; segment.heard(1), Some((Heard::Many, false)));
+        Ok(())
+    }
+
+    /// Skips calm ticks, up to so many, unless the run is over.
+    fn skip(segment: &mut Segment, most: u64) -> u64 {
+        if segment.at_end() {
+            return 0;
+        }
+        segment.skip(most)
+    }
+
+    /// Plays the run to its end, and skips the calm ticks before each other one.
+    fn play_and_skip(segment: &mut Segment) -> Tally {
+        let mut tally = Tally::new();
+        while !segment.at_end() {
+            segment.skip(u64::MAX);
+            if !segment.at_end() {
+                segment.tick(&mut tally);
+            }
+        }
+        tally
+    }
+
+    #[test]
+    fn skips_the_silence_before_the_first_beacon(rt: HostRuntime) -> Result<(), Fail> {
+        let text = b"t1s 1\ncount 3\nnode 0 0 0\nnode 1 1 2\nnode 2 2 5\nend 9000\n";
+        let script = read_script(rt.alloc(), text)?;
+        let mut segment = Segment::new(rt.alloc(), &script)?;
+        assert_eq!(rt; skip(&mut segment, 9000), 0, "the nodes start");
+        play_below(&mut segment, 1);
+        assert_eq!(rt; skip(&mut segment, 9000), 8255);
+        assert_eq!(rt; segment.now(), 8256);
+        assert_eq!(rt; skip(&mut segment, 9000), 0, "a beacon begins");
+        Ok(())
+    }
+
+    #[test]
+    fn a_run_with_skips_is_the_same_run(rt: HostRuntime) -> Result<(), Fail> {
+        let text =
+            b"t1s 1\ncount 3\nnode 0 0 0\nnode 1 1 2\nnode 2 2 5\nlate 2 700\nnoise 300 340\nfill 8300 1 60 00\nend 20000\n";
+        let script = read_script(rt.alloc(), text)?;
+        let mut plain = Segment::new(rt.alloc(), &script)?;
+        let mut skipping = Segment::new(rt.alloc(), &script)?;
+        let mut told = Tally::new();
+        while !plain.at_end() {
+            plain.tick(&mut told);
+        }
+        let tally = play_and_skip(&mut skipping);
+        assert_eq!(rt; skipping.now(), plain.now());
+        assert_eq!(rt; tally.beacons, told.beacons);
+        assert_eq!(rt; tally.quiets, told.quiets);
+        assert_eq!(rt; tally.last_status, told.last_status);
+        assert_eq!(rt; skipping.settled(), plain.settled());
+        assert_eq!(rt; skipping.wait(1), plain.wait(1));
+        for node in [0, 1, 2] {
+            assert_eq!(rt; skipping.totals(node), plain.totals(node));
+            assert_eq!(rt; skipping.heard(node), plain.heard(node));
+        }
         Ok(())
     }
 

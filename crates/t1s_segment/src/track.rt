@@ -4,6 +4,7 @@ ghost use Rattle.t1s_world.specs.Events.{SeesEvents};
 ghost use Rattle.t1s_node.specs.Node.{IsNodeSet};
 ghost use Rattle.t1s_pcs_rx.specs.Leaves.{EventFits, event_shown};
 ghost use Rattle.t1s_line.specs.Track.{arrive_events, begin_events, drive_events, leave_events, note_events, status_events, track_phases};
+ghost use Rattle.t1s_line.specs.CalmTicks.{IsCalmTrack, IsTold, passed_track};
 ghost use Rattle.t1s_line.specs.World.{draws_of, first_track, node_set_of};
 ghost use Rattle.t1s_segment.specs.State.{arrival_kind};
 
@@ -159,6 +160,12 @@ const NO_HEARING: HearReport = HearReport {
 impl NodeMachine for Track {
     ghost phases = { track_phases };
 
+    ghost holds = { IsTold };
+
+    ghost calm = { IsCalmTrack };
+
+    ghost passed = { passed_track };
+
     #[tactic(auto, unfolding(t1s_line::specs::Track::offer_track))]
     fn offer(&mut self, tick: u64, queued: Queued) -> OfferOutcome {
         if tick < self.start {
@@ -204,6 +211,22 @@ impl NodeMachine for Track {
             drove,
             clash: told.clash,
             arrival,
+        }
+    }
+
+    fn calm_for(&self, tick: u64, most: u64) -> u64 {
+        if tick == self.start {
+            return 0;
+        }
+        if tick < self.start {
+            return (self.start - tick).min(most);
+        }
+        self.node.calm_for(most)
+    }
+
+    fn pass(&mut self, tick: u64, n: u64) {
+        if tick >= self.start {
+            self.node.pass(n);
         }
     }
 }

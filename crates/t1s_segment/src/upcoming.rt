@@ -46,7 +46,7 @@ fn copy_of(act: &Act) -> Act
 impl UpcomingActs {
     ghost use Rattle.std.specs.Prelude.{◌≡◌, ◌∷◌, ◌≢◌, List, IfOk, IfSome};
     ghost use Rattle.t1s_script.specs.declared.script.Act.{Act};
-    ghost use Rattle.t1s_segment.specs.Upcoming.{next_due, after_due};
+    ghost use Rattle.t1s_segment.specs.Upcoming.{next_due, after_due, free_ticks};
 
     /// All of these acts are still to come.
     pub fn new(alloc: Global, acts: &[Act]) -> Result<UpcomingActs, AllocError>
@@ -68,6 +68,16 @@ impl UpcomingActs {
         match self.acts.last() {
             Some(act) if act.tick == tick => self.acts.pop().map(|act| act.deed),
             _ => None,
+        }
+    }
+
+    /// How many ticks from this one on come before the next act, at most so many.
+    pub fn free_for(&self, tick: u64, most: u64) -> u64
+        ensures { result ≡ free_ticks tick most self.now }
+    {
+        match self.acts.last() {
+            Some(act) => act.tick.saturating_sub(tick).min(most),
+            None => most,
         }
     }
 }

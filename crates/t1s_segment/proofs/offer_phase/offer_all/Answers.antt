@@ -5,7 +5,7 @@ use Rattle.t1s_line.specs.Acts.{Offer}
 use Rattle.t1s_line.specs.Offers.{offer_event, records_of}
 use Rattle.t1s_segment.specs.Upcoming.{offers_of}
 use Rattle.t1s_segment.proofs.ActSteps.{no_offers, none_due}
-use Rattle.t1s_segment.proofs.DueActs.{one_less, coming_rest, later_offers, later_noise, nodes_split, totals_split, states_split, events_split}
+use Rattle.t1s_segment.proofs.DueActs.{one_less, coming_rest, later_acts, later_offers, later_noise, nodes_split, totals_split, states_split, events_split}
 use Rattle.t1s_segment.proofs.OfferSteps.{still_have}
 use Rattle.t1s_segment.proofs.offer_phase.offer_all.Goals as goal
 
@@ -45,6 +45,7 @@ loop-deed-preserved g c =
           let have = (before.await all).have in
           before.events all v (events_split t upcoming deed next p ns g.W.Watch.sees c.loop-deed.watch c.act_one-until.new.watch v (one.events have) (rw (left, one.nodes have) at later));
       coming = λ all. rw left (coming_rest t upcoming deed next (before.coming all));
+      due = λ all u lt. rw left (later_acts t upcoming deed next u lt ∙ before.due all u lt);
       offers = λ all u lt. rw left (later_offers t upcoming deed next u lt ∙ before.offers all u lt);
       noise = λ all u le. rw (left, one.noise) (later_noise t upcoming deed next u c.loop-deed.until le ∙ before.noise all u le);
     }
@@ -66,6 +67,7 @@ returns g c =
           before.events all c.loop-deed.watch
           (subst (λ (os : List Offer). SeesEvents g.W.Watch.sees c.loop-deed.watch (map offer_event (records_of p t os c.loop-deed.nodes)) c.loop-deed.watch) (sym quiet) refl);
       coming = λ all. let done = none_due t upcoming none (before.coming all) in rw (left, done.0) done.1;
+      due = λ all u lt. rw (left, (none_due t upcoming none (before.coming all)).0) (before.due all u lt);
       offers = λ all u lt. rw (left, (none_due t upcoming none (before.coming all)).0) (before.offers all u lt);
       noise = λ all u le. rw (left, (none_due t upcoming none (before.coming all)).0) (before.noise all u le);
     }

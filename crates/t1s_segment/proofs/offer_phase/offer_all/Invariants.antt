@@ -1,7 +1,7 @@
 use Rattle.std.proofs.Common.{◌≡◌, ℕ, ◌<◌, ◌≤◌, ◌||◌, ltb, length, get_or, map}
 use Rattle.t1s_world.specs.Events.{SeesEvents}
 use Rattle.t1s_line.specs.declared.offers.OfferState.TheVariants.{Unknown}
-use Rattle.t1s_line.specs.Acts.{is_noisy, offers_at}
+use Rattle.t1s_line.specs.Acts.{has_act, is_noisy, offers_at}
 use Rattle.t1s_line.specs.Offers.{after_offers, after_records, offer_event, records_of}
 use Rattle.t1s_line.specs.Totals.{after_refusals}
 use Rattle.t1s_segment.specs.Numbers.{AwaitActs}
@@ -29,6 +29,7 @@ invariant-loop-deed g l =
           SeesEvents g.W.Watch.sees l.watch (map offer_event (records_of p t (offers_at l.upcoming t) l.nodes)) v →
           SeesEvents g.W.Watch.sees l.initial.watch (map offer_event (records_of p t (offers_at l.initial.upcoming t) l.initial.nodes)) v;
       coming : AreComing t l.initial.upcoming → AreComing t l.upcoming;
+      due : AreComing t l.initial.upcoming → (u : ℕ) → t < u → has_act l.upcoming u ≡ has_act l.initial.upcoming u;
       offers : AreComing t l.initial.upcoming → (u : ℕ) → t < u → offers_at l.upcoming u ≡ offers_at l.initial.upcoming u;
       noise : AreComing t l.initial.upcoming → (u : ℕ) → t ≤ u → (is_noisy l.upcoming u || ltb u l.until) ≡ (is_noisy l.initial.upcoming u || ltb u l.initial.until);
     }

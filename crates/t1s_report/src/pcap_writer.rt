@@ -84,11 +84,11 @@ impl<'a, K: Sink> Watch for PcapWriter<'a, K> {
         if let Event::Arrive {
             tick,
             node,
-            kind: Kind::Good,
+            kind,
             frame,
         } = *e
         {
-            if node == self.node {
+            if kind == Kind::Good && node == self.node {
                 self.put_record(tick, frame);
             }
         }

@@ -1,4 +1,4 @@
-use Rattle.std.proofs.Common.{◌≡◌, ap, ◌∙◌}
+use Rattle.std.proofs.Common.{◌≡◌, ap, ◌∙◌, rules}
 use Rattle.t1s_pcs_rx.specs.declared.piece.Kind.TheVariants.{Good}
 use Rattle.t1s_line.specs.declared.events.Event.{Event}
 use Rattle.t1s_line.specs.EventRecords.{event_record, ArriveRecord}
@@ -8,9 +8,9 @@ use Rattle.t1s_report.proofs.pcap_writer.PcapWriterWatch.event.Goals as goal
 
 pub returns-then-node-self : goal.returns-then-node-self
 returns-then-node-self g c =
-    let a = c.in-Arrive-default-default-Good-default in
+    let a = c.in-Arrive in
     let node = c.args.self.now.node in
-    let good : a.kind ≡ Good = rw a.is at a.kind-is in
+    let good : a.kind ≡ Good = search rules in
     let arrived : event_text node (ArriveRecord a.tick a.node a.kind a.frame.now) ≡ record_text (record_of a.tick a.frame.now) =
     rw (c.if-node-self.true, good) (good_event_text node a.tick a.frame.now) in
     let told : event_text node (event_record c.args.e.now) ≡ record_text (record_of a.tick a.frame.now) =

@@ -3,7 +3,9 @@ use Rattle.std.proofs.Common.{◌≡◌, ℕ, ◌+◌, ◌/◌, Bool, true, fals
 use Rattle.std.specs.Prelude.{if◌then◌else◌}
 use Rattle.std.specs.List.{list_all}
 use Rattle.t1s_drawing.specs.Lines.{fields_of, parts_of}
-use Rattle.t1s_drawing.specs.Picture.{Outcome, after, closing, drawn, each_text, end_of, going_on, head, head_text, height, line_step, opening, picture, piece_text, step_of, told_text, width, with_grid, with_lanes}
+use Rattle.t1s_drawing.specs.Pieces.{each_text, piece_text}
+use Rattle.t1s_drawing.specs.Picture.{head, head_text, height, picture_opening, shapes_text, width, with_grid, with_lanes}
+use Rattle.t1s_drawing.specs.Written.{Outcome, after, closing, closing_of, drawing_of, drawn, end_of, going_on, line_step, opening, opening_of, step_of, told_of, told_text}
 use Rattle.t1s_drawing.specs.Progress.{Stepped, at_start}
 use Rattle.t1s_drawing.specs.ReadLines.{is_plain, line_in, line_of}
 use Rattle.t1s_drawing.specs.ShapeTexts.{label_text}
@@ -11,6 +13,8 @@ use Rattle.t1s_drawing.specs.Xml.{Attribute, IsContent, IsDocument, are_attribut
 use Rattle.t1s_drawing.specs.declared.report.ReportLine.{ReportLine}
 use Rattle.t1s_drawing.specs.declared.progress.Progress.{Progress}
 use Rattle.t1s_drawing.specs.declared.progress.Told.{Told}
+use Rattle.t1s_drawing.specs.declared.window.Form.{Form}
+use Rattle.t1s_drawing.specs.declared.window.Form.TheVariants.{Picture}
 use Rattle.t1s_drawing.specs.declared.window.Window.{Window}
 use Rattle.t1s_drawing.specs.declared.writing.Piece.TheVariants.{Lanes, Grid, Legend, Ends}
 use Rattle.t1s_drawing.proofs.Contents.{content_characters, content_element, content_none, content_then, decimal_in_value}
@@ -62,14 +66,14 @@ label_after before class x y words = simp append_assoc refl
 note : List ℕ
 note = codes "ticks of 100 ns; +K is offer K, taken into the queue"
 
-opening_begun : (w : Window) → Begun w (opening w)
+opening_begun : (w : Window) → Begun w (picture_opening w)
 unfolding note
 opening_begun w =
     let labelled : Begun w (head_text w) =
     subst (Begun w) (sym (label_after (head w) (codes "note") 70 14 note))
     (begun_then w (head w) (label_text [] (codes "note") 70 14 note) (head_begun w) (words_content [] (codes "note") 70 14 note content_none refl refl)) in
     begun_then w (with_grid w) (each_text (piece_text Legend w at_start) 5)
-    (begun_then w (with_lanes w) (each_text (piece_text Grid w at_start) (w.until / 100 + 1)) (begun_then w (head_text w) (each_text (piece_text Lanes w at_start) w.nodes) labelled (each_content Lanes w at_start w.nodes)) (each_content Grid w at_start (w.until / 100 + 1))) (each_content Legend w at_start 5)
+    (begun_then w (with_lanes w) (each_text (piece_text Grid w at_start) (w.until / 100 + 1)) (begun_then w (head_text w) (each_text (piece_text Lanes w at_start) w.nodes) labelled (each_content Lanes w at_start w.nodes (λ row. refl))) (each_content Grid w at_start (w.until / 100 + 1) (λ row. refl))) (each_content Legend w at_start 5 (λ row. refl))
 
 -- ---- lines
 
@@ -92,7 +96,7 @@ plain_of_step w p number line x h = go (nat_lt 4096 (length line)) (nat_lt 10737
     go false true e = absurd cc
     go false false e = plain_of_step_of w p line (line_of line) x refl e
 
-told_content : (w : Window) (line : List ℕ) (told : Told) → is_plain line ≡ true → IsContent (told_text w line told)
+told_content : (w : Window) (line : List ℕ) (told : Told) → is_plain line ≡ true → IsContent (shapes_text w line told)
 told_content w line told plain = optional_content _ w line told.mark (optional_content [] w line told.bar content_none plain) plain
 
 -- content, and then the end of the element that holds all
@@ -107,25 +111,25 @@ refused_of : (a : List ℕ) (o : Outcome) → (after a o).refused ≡ false → 
 unfolding after
 refused_of a o h = h
 
-end_closed : (w : Window) (p : Progress) (number : ℕ) (part : List ℕ) → (end_of w p number part).refused ≡ false → Closed (end_of w p number part).text
-end_closed w p number [] h = go p.in_summary h
+end_closed : (w : Window) (p : Progress) (number : ℕ) (part : List ℕ) → w.form ≡ Picture → (end_of w p number part).refused ≡ false → Closed (end_of w p number part).text
+end_closed w p number [] form h = go p.in_summary h
   where
-    go : (b : Bool) → (if b then record { text = closing w p; refused = false } else Rattle.t1s_drawing.specs.Picture.refusal number Rattle.t1s_drawing.specs.declared.progress.Reason.TheVariants.End).refused ≡ false
-        → Closed (if b then record { text = closing w p; refused = false } else Rattle.t1s_drawing.specs.Picture.refusal number Rattle.t1s_drawing.specs.declared.progress.Reason.TheVariants.End).text
-    go true e = (each_text (piece_text Ends w p) w.nodes, each_content Ends w p w.nodes, refl)
+    go : (b : Bool) → (if b then record { text = closing w p; refused = false } else Rattle.t1s_drawing.specs.Written.refusal number Rattle.t1s_drawing.specs.declared.progress.Reason.TheVariants.End).refused ≡ false
+        → Closed (if b then record { text = closing w p; refused = false } else Rattle.t1s_drawing.specs.Written.refusal number Rattle.t1s_drawing.specs.declared.progress.Reason.TheVariants.End).text
+    go true e = (each_text (piece_text Ends w p) w.nodes, each_content Ends w p w.nodes (λ row. refl), ap (λ (f : Form). closing_of f w p) form)
     go false e = absurd cc
-end_closed w p number (octet ∷ part) h = absurd cc
+end_closed w p number (octet ∷ part) form h = absurd cc
 
-drawn_closed : (w : Window) (parts : List (List ℕ)) (p : Progress) (number : ℕ) → (drawn w parts p number).refused ≡ false → Closed (drawn w parts p number).text
+drawn_closed : (w : Window) → w.form ≡ Picture → (parts : List (List ℕ)) (p : Progress) (number : ℕ) → (drawn w parts p number).refused ≡ false → Closed (drawn w parts p number).text
 unfolding drawn
-drawn_closed w [] p number h = absurd cc
-drawn_closed w (part ∷ []) p number h = end_closed w p number part h
-drawn_closed w (part ∷ next ∷ parts) p number h = go (λ q. drawn_closed w (next ∷ parts) q (number + 1)) (line_step w p number part) refl h
+drawn_closed w form [] p number h = absurd cc
+drawn_closed w form (part ∷ []) p number h = end_closed w p number part form h
+drawn_closed w form (part ∷ next ∷ parts) p number h = go (λ q. drawn_closed w form (next ∷ parts) q (number + 1)) (line_step w p number part) refl h
   where
     go : ((q : Progress) → (drawn w (next ∷ parts) q (number + 1)).refused ≡ false → Closed (drawn w (next ∷ parts) q (number + 1)).text) → (s : Stepped) → line_step w p number part ≡ s → (going_on w number part s (λ q. drawn w (next ∷ parts) q (number + 1))).refused ≡ false →
         Closed (going_on w number part s (λ q. drawn w (next ∷ parts) q (number + 1))).text
     go more (Ok x) is e =
-        closed_after (told_text w part x.1) (drawn w (next ∷ parts) x.0 (number + 1)) (told_content w part x.1 (plain_of_step w p number part x is))
+        closed_after (told_text w part x.1) (drawn w (next ∷ parts) x.0 (number + 1)) (subst IsContent (sym (ap (λ (f : Form). told_of f w part x.1) form)) (told_content w part x.1 (plain_of_step w p number part x is)))
         (more x.0 (refused_of (told_text w part x.1) (drawn w (next ∷ parts) x.0 (number + 1)) e))
     go more (Err reason) is e = absurd cc
 
@@ -151,6 +155,8 @@ document_of w a b (front, c, is) (back, d, is') =
     }
 
 -- a picture that is not refused is an XML document
-pub picture_document : (w : Window) (octets : List ℕ) → (picture w octets).refused ≡ false → IsDocument (picture w octets).text
-unfolding picture after
-picture_document w octets h = document_of w (opening w) (drawn w (parts_of octets) at_start 1).text (opening_begun w) (drawn_closed w (parts_of octets) at_start 1 h)
+pub picture_document : (w : Window) (octets : List ℕ) → w.form ≡ Picture → (drawing_of w octets).refused ≡ false → IsDocument (drawing_of w octets).text
+unfolding drawing_of after
+picture_document w octets form h =
+    document_of w (opening w) (drawn w (parts_of octets) at_start 1).text (subst (Begun w) (sym (ap (λ (f : Form). opening_of f w) form)) (opening_begun w))
+    (drawn_closed w form (parts_of octets) at_start 1 h)

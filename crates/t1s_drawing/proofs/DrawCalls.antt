@@ -9,7 +9,7 @@ use Rattle.t1s_drawing.specs.Calls.{HasFaultCause, Wrote}
 use Rattle.t1s_drawing.specs.Drawn.{Drawn, DrawEnd, DrawStop, status_of}
 use Rattle.t1s_drawing.specs.DrawCall.{DrawCall}
 use Rattle.t1s_drawing.specs.Lines.{parts_of}
-use Rattle.t1s_drawing.specs.Picture.{Outcome, drawn, opening, picture}
+use Rattle.t1s_drawing.specs.Written.{Outcome, drawn, opening, drawing_of}
 use Rattle.t1s_drawing.specs.Progress.{at_start}
 use Rattle.t1s_drawing.specs.declared.drawing.Drawing.{Drawing}
 use Rattle.t1s_drawing.specs.declared.status.Status.{Status}
@@ -54,11 +54,11 @@ refused_refused false e = absurd cc
 
 module _ {S K : Type 0} (left : S → Option (List ℕ)) (read_faults : S → ℕ) (written : K → Option (List ℕ)) (faults : K → ℕ) (finished : K → Bool) (w : Window) where
   no_read_fault : (octets : List ℕ) (first now : K) (status : Status) → DrawEnd written faults finished w octets first now status → status ≢ ReadFault
-  no_read_fault octets first now status h e = elim h.answer [ inl a ↦ status_no_read_fault (picture w octets) (sym a ∙ e) | inr a ↦ cc ]
+  no_read_fault octets first now status h e = elim h.answer [ inl a ↦ status_no_read_fault (drawing_of w octets) (sym a ∙ e) | inr a ↦ cc ]
 
   -- the opening was not written whole
   pub calls_unopened : {T E : Type 0} (s : S) (first now : K) (x : E) → Wrote {T = T} {E = E} written faults (opening w) first now (Err x) → DrawCall left read_faults written faults finished w s s first now WriteFault
-  unfolding picture
+  unfolding drawing_of
   calls_unopened s first now x h = record {
     cause = unfailed refl (λ e. cc);
     taken = [];
@@ -77,10 +77,10 @@ module _ {S K : Type 0} (left : S → Option (List ℕ)) (read_faults : S → �
   }
 
   module _ (s0 s : S) (first now : K) (octets : List ℕ) (d : Drawing) (h : Drawn written faults w octets d first now) where
-    so_far : (more : List ℕ) → GrowsByPrefix (written first) (written now) (picture w (octets ++ more)).text
+    so_far : (more : List ℕ) → GrowsByPrefix (written first) (written now) (drawing_of w (octets ++ more)).text
     so_far more =
         let rest = drawn w (parts_of (d.line ++ more)) d.progress d.number in
-        let is : (picture w (octets ++ more)).text ≡ h.text ++ rest.text = ap (λ (o : Outcome). o.text) (h.goes_on more) ∙ text-after h.text rest in
+        let is : (drawing_of w (octets ++ more)).text ≡ h.text ++ rest.text = ap (λ (o : Outcome). o.text) (h.goes_on more) ∙ text-after h.text rest in
         rw is (prefix_of_whole (written first) (written now) h.text rest.text h.grows)
 
     -- a read failed
@@ -132,7 +132,7 @@ module _ {S K : Type 0} (left : S → Option (List ℕ)) (read_faults : S → �
   -- What the program's answer says.
   module _ (s s' : S) (k k' : K) (status : Status) (d : DrawCall left read_faults written faults finished w s s' k k' status) where
     pub no_usage : status ≢ Usage
-    no_usage e = elim (d.ended (λ f. cc)).answer [ inl a ↦ go (picture w (d.taken ++ d.beyond)).refused (sym a ∙ e) | inr a ↦ cc ]
+    no_usage e = elim (d.ended (λ f. cc)).answer [ inl a ↦ go (drawing_of w (d.taken ++ d.beyond)).refused (sym a ∙ e) | inr a ↦ cc ]
       where
         go : (b : Bool) → (if b then Refused else Done) ≢ Usage
         go true e = cc
@@ -169,25 +169,25 @@ module _ {S K : Type 0} (left : S → Option (List ℕ)) (read_faults : S → �
           go None gives rest = cc
           go (Some more) gives rest = ap Some (sym rest ∙ d.whole e)
 
-      pub says_done : status ≡ Done → ((picture w octets).refused ≡ false) × Grows (written k) (written k') (picture w octets).text × (left s' ≡ Some [])
+      pub says_done : status ≡ Done → ((drawing_of w octets).refused ≡ false) × Grows (written k) (written k') (drawing_of w octets).text × (left s' ≡ Some [])
       says_done e =
           let ends = ended_of_all (λ f. cc) in (
-            elim ends.answer [ inl a ↦ done_unrefused (picture w octets).refused (sym a ∙ e) | inr a ↦ absurd cc ],
+            elim ends.answer [ inl a ↦ done_unrefused (drawing_of w octets).refused (sym a ∙ e) | inr a ↦ absurd cc ],
             ends.whole (λ f. cc),
             reads_all e,
           )
 
-      pub says_refused : status ≡ Refused → ((picture w octets).refused ≡ true) × Grows (written k) (written k') (picture w octets).text
+      pub says_refused : status ≡ Refused → ((drawing_of w octets).refused ≡ true) × Grows (written k) (written k') (drawing_of w octets).text
       says_refused e =
           let ends = ended_of_all (λ f. cc) in (
-            elim ends.answer [ inl a ↦ refused_refused (picture w octets).refused (sym a ∙ e) | inr a ↦ absurd cc ],
+            elim ends.answer [ inl a ↦ refused_refused (drawing_of w octets).refused (sym a ∙ e) | inr a ↦ absurd cc ],
             ends.whole (λ f. cc),
           )
 
-      pub says_prefix : status ≡ WriteFault → GrowsByPrefix (written k) (written k') (picture w octets).text
+      pub says_prefix : status ≡ WriteFault → GrowsByPrefix (written k) (written k') (drawing_of w octets).text
       says_prefix e = (ended_of_all (λ f. cc)).prefix e
 
-      pub completes : ¬ (FaultCountRose (read_faults s) (read_faults s')) → ¬ (FaultCountRose (faults k) (faults k')) → status ≡ status_of (picture w octets)
+      pub completes : ¬ (FaultCountRose (read_faults s) (read_faults s')) → ¬ (FaultCountRose (faults k) (faults k')) → status ≡ status_of (drawing_of w octets)
       completes calm_source calm_sink =
           let ends = ended_of_all (λ e. calm_source (d.cause.rose e)) in
           elim ends.answer [ inl a ↦ a | inr a ↦ absurd (calm_sink (ends.cause.rose a)) ]

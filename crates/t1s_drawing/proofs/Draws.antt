@@ -7,7 +7,7 @@ use Rattle.t1s_base.specs.Octets.{Grows}
 use Rattle.t1s_base.proofs.Growth.{grows_then, grows_then_prefix}
 use Rattle.t1s_drawing.specs.Lines.{parts_of}
 use Rattle.t1s_drawing.specs.Progress.{at_start}
-use Rattle.t1s_drawing.specs.Picture.{Outcome, after, closing, drawn, end_of, going_on, line_step, opening, picture, refusal, refused_line, told_text}
+use Rattle.t1s_drawing.specs.Written.{Outcome, after, closing, drawn, end_of, going_on, line_step, opening, drawing_of, refusal, refused_line, told_text}
 use Rattle.t1s_drawing.specs.Drawn.{Drawn, DrawEnd, DrawStop}
 use Rattle.t1s_drawing.specs.DrawSteps.{TextOutcome}
 use Rattle.t1s_drawing.specs.declared.drawing.Drawing.{Drawing}
@@ -58,7 +58,7 @@ module _ {K : Type 0} (written : K → Option (List ℕ)) (faults : K → ℕ) (
   -- the opening is written, and nothing is read
   pub begun : (d : Drawing) (first now : K) → d.line ≡ [] → d.progress ≡ at_start → d.number ≡ 1 → Grows (written first) (written now) (opening w) → faults now ≡ faults first →
       Drawn written faults w [] d first now
-  unfolding picture
+  unfolding drawing_of
   begun d first now line progress number grows same = record {
     text = opening w;
     grows = grows;
@@ -70,15 +70,15 @@ module _ {K : Type 0} (written : K → Option (List ℕ)) (faults : K → ℕ) (
   module _ (octets : List ℕ) (d : Drawing) (first now : K) (h : Drawn written faults w octets d first now) where
     -- what is written for all, where the line that has begun ends here
     line_goes_on : (more : List ℕ) →
-        picture w ((octets ++ 10 ∷ []) ++ more) ≡ after h.text (going_on w d.number d.line (line_step w d.progress d.number d.line) (λ q. drawn w (parts_of more) q (d.number + 1)))
+        drawing_of w ((octets ++ 10 ∷ []) ++ more) ≡ after h.text (going_on w d.number d.line (line_step w d.progress d.number d.line) (λ q. drawn w (parts_of more) q (d.number + 1)))
     line_goes_on more =
-        ap (picture w) (append_assoc octets (10 ∷ []) more) ∙ (h.goes_on (10 ∷ more)
+        ap (drawing_of w) (append_assoc octets (10 ∷ []) more) ∙ (h.goes_on (10 ∷ more)
         ∙ (ap (λ (parts : List (List ℕ)). after h.text (drawn w parts d.progress d.number)) (parts-line d.line more h.in_line)
         ∙ ap (after h.text) (drawn-more w d.line more d.progress d.number)))
 
     -- and it is one of the report
     taken_goes_on : (p : Progress) (told : Told) (more : List ℕ) → line_step w d.progress d.number d.line ≡ Ok (p, told) →
-        picture w ((octets ++ 10 ∷ []) ++ more) ≡ after (h.text ++ told_text w d.line told) (drawn w (parts_of more) p (d.number + 1))
+        drawing_of w ((octets ++ 10 ∷ []) ++ more) ≡ after (h.text ++ told_text w d.line told) (drawn w (parts_of more) p (d.number + 1))
     taken_goes_on p told more e =
         line_goes_on more ∙ (ap (λ s. after h.text (going_on w d.number d.line s (λ q. drawn w (parts_of more) q (d.number + 1)))) e
         ∙ after-after h.text (told_text w d.line told) (drawn w (parts_of more) p (d.number + 1)))
@@ -94,11 +94,11 @@ module _ {K : Type 0} (written : K → Option (List ℕ)) (faults : K → ℕ) (
     }
 
     -- an ending with a text that is the rest of the picture
-    pub draw_ends : (all text : List ℕ) (whole status : Status) (refused : Bool) (now' : K) → picture w all ≡ after h.text (record { text = text; refused = refused }) → whole ≡ (if refused then Refused else Done) →
+    pub draw_ends : (all text : List ℕ) (whole status : Status) (refused : Bool) (now' : K) → drawing_of w all ≡ after h.text (record { text = text; refused = refused }) → whole ≡ (if refused then Refused else Done) →
         TextOutcome written faults finished whole text now now' status → DrawEnd written faults finished w all first now' status
     draw_ends all text whole status refused now' is which e =
-        let texts : (picture w all).text ≡ h.text ++ text = ap (λ (o : Outcome). o.text) is ∙ text-after h.text (record { text = text; refused = refused }) in
-        let refusals : (picture w all).refused ≡ refused = ap (λ (o : Outcome). o.refused) is ∙ refused-after h.text (record { text = text; refused = refused }) in
+        let texts : (drawing_of w all).text ≡ h.text ++ text = ap (λ (o : Outcome). o.text) is ∙ text-after h.text (record { text = text; refused = refused }) in
+        let refusals : (drawing_of w all).refused ≡ refused = ap (λ (o : Outcome). o.refused) is ∙ refused-after h.text (record { text = text; refused = refused }) in
         let same = h.kept in
         let answer : status ≢ WriteFault → status ≡ whole = λ n. elim e.answer [ inl a ↦ a | inr a ↦ absurd (n a) ] in
         record {
@@ -110,10 +110,10 @@ module _ {K : Type 0} (written : K → Option (List ℕ)) (faults : K → ℕ) (
         }
 
     -- the write of a text failed, whatever follows it in the picture
-    part_ends : (all text rest : List ℕ) (refused : Bool) (now' : K) → picture w all ≡ after h.text (record { text = text ++ rest; refused = refused }) →
+    part_ends : (all text rest : List ℕ) (refused : Bool) (now' : K) → drawing_of w all ≡ after h.text (record { text = text ++ rest; refused = refused }) →
         TextOutcome written faults finished Done text now now' WriteFault → DrawEnd written faults finished w all first now' WriteFault
     part_ends all text rest refused now' is e =
-        let texts : (picture w all).text ≡ h.text ++ (text ++ rest) = ap (λ (o : Outcome). o.text) is ∙ text-after h.text (record { text = text ++ rest; refused = refused }) in
+        let texts : (drawing_of w all).text ≡ h.text ++ (text ++ rest) = ap (λ (o : Outcome). o.text) is ∙ text-after h.text (record { text = text ++ rest; refused = refused }) in
         let same = h.kept in
         record {
           answer = inr refl;
@@ -145,9 +145,9 @@ module _ {K : Type 0} (written : K → Option (List ℕ)) (faults : K → ℕ) (
           (line_goes_on more ∙ ap (λ s. after h.text (going_on w d.number d.line s (λ q. drawn w (parts_of more) q (d.number + 1)))) e) refl out;
     }
 
-    octet_goes_on : (octet : ℕ) (more : List ℕ) → picture w ((octets ++ octet ∷ []) ++ more) ≡ after h.text (drawn w (parts_of ((d.line ++ octet ∷ []) ++ more)) d.progress d.number)
+    octet_goes_on : (octet : ℕ) (more : List ℕ) → drawing_of w ((octets ++ octet ∷ []) ++ more) ≡ after h.text (drawn w (parts_of ((d.line ++ octet ∷ []) ++ more)) d.progress d.number)
     octet_goes_on octet more =
-        ap (picture w) (append_assoc octets (octet ∷ []) more) ∙ (h.goes_on (octet ∷ more)
+        ap (drawing_of w) (append_assoc octets (octet ∷ []) more) ∙ (h.goes_on (octet ∷ more)
         ∙ ap (λ (o : List ℕ). after h.text (drawn w (parts_of o) d.progress d.number)) (sym (append_assoc d.line (octet ∷ []) more)))
 
     -- an octet of a line
@@ -176,9 +176,9 @@ module _ {K : Type 0} (written : K → Option (List ℕ)) (faults : K → ℕ) (
     }
 
     -- where the input ends
-    at_end : picture w octets ≡ after h.text (end_of w d.progress d.number d.line)
+    at_end : drawing_of w octets ≡ after h.text (end_of w d.progress d.number d.line)
     at_end =
-        ap (picture w) (sym (append-nil octets)) ∙ (h.goes_on []
+        ap (drawing_of w) (sym (append-nil octets)) ∙ (h.goes_on []
         ∙ (ap (λ (o : List ℕ). after h.text (drawn w (parts_of o) d.progress d.number)) (append-nil d.line)
         ∙ (ap (λ (p : List (List ℕ)). after h.text (drawn w p d.progress d.number)) (parts-last d.line h.in_line)
         ∙ ap (after h.text) (drawn-last w d.line d.progress d.number))))

@@ -9,3 +9,5 @@ pub mod ShapeContents
 pub mod Documents
 pub mod Bars
 pub mod PictureBars
+pub mod DumpDocuments
+pub mod DumpWords

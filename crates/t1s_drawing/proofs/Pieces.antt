@@ -2,7 +2,7 @@
 use Rattle.std.proofs.Common.{◌≡◌, ℕ, zero, suc, ◌+◌, ◌-◌, ◌<◌, List, [], ◌++◌, Ok, Err, Option, sym, ap, ◌∙◌, arith, append_assoc, add-one}
 use Rattle.std.proofs.lemmas.List.{append-nil}
 use Rattle.t1s_drawing.specs.Calls.{Wrote}
-use Rattle.t1s_drawing.specs.Picture.{each_text}
+use Rattle.t1s_drawing.specs.Pieces.{each_text}
 use Rattle.t1s_drawing.proofs.Writes.{wrote_part, wrote_then}
 
 pub each_text-next : (f : ℕ → List ℕ) (n : ℕ) → each_text f (n + 1) ≡ each_text f n ++ f n

@@ -4,7 +4,7 @@ use Rattle.std.specs.Prelude.{if◌then◌else◌}
 use Rattle.std.specs.List.{list_all}
 use Rattle.std.specs.Str.{bytes_eq}
 use Rattle.t1s_drawing.specs.Elements.{begin_box, begin_words, end_box, end_words}
-use Rattle.t1s_drawing.specs.Picture.{each_text, piece_shape, piece_text}
+use Rattle.t1s_drawing.specs.Pieces.{each_text, piece_shape, piece_text}
 use Rattle.t1s_drawing.specs.ReadLines.{is_plain}
 use Rattle.t1s_drawing.specs.ShapeTexts.{bar_text, bottom, box_text, column_x, lane_y, legend_class, legend_words, mark_of, numbered_text, optional_text, part_class, part_number, shape_text, shown, summary_y, title_text, totals_class}
 use Rattle.t1s_drawing.specs.Xml.{Attribute, IsContent, are_attributes, attributes_text, is_character, is_in_value}
@@ -163,7 +163,8 @@ pub optional_content : (before : List ℕ) (w : Window) (line : List ℕ) (shape
 optional_content before w line (Some shape) b plain = shape_content before w line shape b plain
 optional_content before w line None b plain = b
 
-pub each_content : (piece : Piece) (w : Window) (p : Progress) (count : ℕ) → IsContent (each_text (piece_text piece w p) count)
-each_content piece w p zero = content_none
-each_content piece w p (suc count) =
-    content_then (each_text (piece_text piece w p) count) (piece_text piece w p count) (each_content piece w p count) (optional_content [] w [] (piece_shape piece w p count) content_none refl)
+pub each_content : (piece : Piece) (w : Window) (p : Progress) (count : ℕ) → ((row : ℕ) → piece_text piece w p row ≡ optional_text [] w [] (piece_shape piece w p row)) → IsContent (each_text (piece_text piece w p) count)
+each_content piece w p zero shapes = content_none
+each_content piece w p (suc count) shapes =
+    content_then (each_text (piece_text piece w p) count) (piece_text piece w p count) (each_content piece w p count shapes)
+    (subst IsContent (sym (shapes count)) (optional_content [] w [] (piece_shape piece w p count) content_none refl))

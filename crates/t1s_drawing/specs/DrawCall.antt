@@ -7,22 +7,32 @@ use Rattle.std.proofs.Common.{Global}
 use Rattle.t1s_base.specs.Octets.{Gives, GrowsByPrefix}
 use Rattle.t1s_drawing.specs.Calls.{HasFaultCause}
 use Rattle.t1s_drawing.specs.Drawn.{DrawEnd}
-use Rattle.t1s_drawing.specs.Picture.{picture}
+use Rattle.t1s_drawing.specs.Written.{drawing_of}
 use Rattle.t1s_drawing.specs.ReadLines.{small_number}
 use Rattle.t1s_drawing.specs.declared.status.Status.{Status}
 use Rattle.t1s_drawing.specs.declared.status.Status.TheVariants.{Done, ReadFault}
+use Rattle.t1s_drawing.specs.declared.window.Form.{Form}
+use Rattle.t1s_drawing.specs.declared.window.Form.TheVariants.{Picture, Waveform}
 use Rattle.t1s_drawing.specs.declared.window.Window.{Window}
 
 -- a window has a tick, and 1 to 32 nodes
-abbrev pub window_of : Option ℕ → Option ℕ → Option ℕ → Option Window
-window_of (Some from) (Some until) (Some nodes) =
-    if nat_lt from until && nat_lt 0 nodes && nat_le nodes 32 then Some (record { from = from; until = until; nodes = nodes }) else None
-window_of _ _ _ = None
+abbrev pub window_of : Form → Option ℕ → Option ℕ → Option ℕ → Option Window
+window_of form (Some from) (Some until) (Some nodes) =
+    if nat_lt from until && nat_lt 0 nodes && nat_le nodes 32 then Some (record { form = form; from = from; until = until; nodes = nodes }) else None
+window_of form _ _ _ = None
 
--- the window that words name: `picture`, the first tick, the tick after the last one, and how many nodes there are
+abbrev pub picture_window : List ℕ → List ℕ → List ℕ → List ℕ → Option Window
+picture_window word from until nodes =
+    if bytes_eq word (codes "picture") then window_of Picture (small_number from) (small_number until) (small_number nodes) else None
+
+abbrev pub dump_window : List ℕ → List ℕ → List ℕ → Option Window
+dump_window word until nodes = if bytes_eq word (codes "wave") then window_of Waveform (Some 0) (small_number until) (small_number nodes) else None
+
+-- the window that words name: `picture`, the first tick, the tick after the last one, and how many nodes there are; or
+-- `wave`, the tick after the last one, and how many nodes there are
 abbrev pub window_in : List (List ℕ) → Option Window
-window_in (word ∷ from ∷ until ∷ nodes ∷ []) =
-    if bytes_eq word (codes "picture") then window_of (small_number from) (small_number until) (small_number nodes) else None
+window_in (word ∷ from ∷ until ∷ nodes ∷ []) = picture_window word from until nodes
+window_in (word ∷ until ∷ nodes ∷ []) = dump_window word until nodes
 window_in _ = None
 
 abbrev pub word_octets : List (String Global) → List (List ℕ)
@@ -32,13 +42,13 @@ abbrev pub AreWords : List (String Global) → Window → Type 0
 AreWords words w = window_in (word_octets words) ≡ Some w
 
 -- It took some octets, where `left` tells what the source has left, and has others left. Only a failed read ends it
--- before the drawing has ended; what stands written then begins the picture of what was taken, whatever follows it.
+-- before the drawing has ended; what stands written then begins what is written for what was taken, whatever follows it.
 pub record DrawCall {S K : Type 0} (left : S → Option (List ℕ)) (read_faults : S → ℕ) (written : K → Option (List ℕ)) (write_faults : K → ℕ) (finished : K → Bool) (w : Window) (source source' : S) (sink sink' : K) (status : Status) : Type 0 where
   pub cause : HasFaultCause (read_faults source) (read_faults source') ReadFault status
   pub taken : List ℕ
   pub beyond : List ℕ
   pub gives : Gives (left source) (left source') taken
   pub rest : IfSome (left source') (λ octets. beyond ≡ octets)
-  pub failed : status ≡ ReadFault → (write_faults sink' ≡ write_faults sink) × ((more : List ℕ) → GrowsByPrefix (written sink) (written sink') (picture w (taken ++ more)).text)
+  pub failed : status ≡ ReadFault → (write_faults sink' ≡ write_faults sink) × ((more : List ℕ) → GrowsByPrefix (written sink) (written sink') (drawing_of w (taken ++ more)).text)
   pub ended : status ≢ ReadFault → DrawEnd written write_faults finished w (taken ++ beyond) sink sink' status
   pub whole : status ≡ Done → beyond ≡ []

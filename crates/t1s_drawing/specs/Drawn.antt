@@ -4,7 +4,7 @@ use Rattle.std.specs.List.{list_all}
 use Rattle.t1s_base.specs.Octets.{Grows, GrowsByPrefix}
 use Rattle.t1s_drawing.specs.Calls.{HasFaultCause}
 use Rattle.t1s_drawing.specs.Lines.{parts_of}
-use Rattle.t1s_drawing.specs.Picture.{Outcome, after, drawn, picture}
+use Rattle.t1s_drawing.specs.Written.{Outcome, after, drawn, drawing_of}
 use Rattle.t1s_drawing.specs.declared.drawing.Drawing.{Drawing}
 use Rattle.t1s_drawing.specs.declared.status.Status.{Status}
 use Rattle.t1s_drawing.specs.declared.status.Status.TheVariants.{Done, Refused, WriteFault}
@@ -21,7 +21,7 @@ pub record Drawn {K : Type 0} (written : K → Option (List ℕ)) (faults : K �
   pub grows : Grows (written first) (written now) text
   pub kept : faults now ≡ faults first
   pub in_line : is_in_line drawing.line ≡ true
-  pub goes_on : (more : List ℕ) → picture w (octets ++ more) ≡ after text (drawn w (parts_of (drawing.line ++ more)) drawing.progress drawing.number)
+  pub goes_on : (more : List ℕ) → drawing_of w (octets ++ more) ≡ after text (drawn w (parts_of (drawing.line ++ more)) drawing.progress drawing.number)
 
 -- the answer where the whole text was written
 abbrev pub status_of : Outcome → Status
@@ -29,10 +29,10 @@ status_of outcome = if outcome.refused then Refused else Done
 
 -- The drawing of these octets, the whole input, has ended: all is written and the sink is finished, or the sink failed.
 pub record DrawEnd {K : Type 0} (written : K → Option (List ℕ)) (faults : K → ℕ) (finished : K → Bool) (w : Window) (octets : List ℕ) (first now : K) (status : Status) : Type 0 where
-  pub answer : (status ≡ status_of (picture w octets)) ⊎ (status ≡ WriteFault)
-  pub whole : status ≢ WriteFault → Grows (written first) (written now) (picture w octets).text
+  pub answer : (status ≡ status_of (drawing_of w octets)) ⊎ (status ≡ WriteFault)
+  pub whole : status ≢ WriteFault → Grows (written first) (written now) (drawing_of w octets).text
   pub finish : status ≢ WriteFault → finished now ≡ true
-  pub prefix : status ≡ WriteFault → GrowsByPrefix (written first) (written now) (picture w octets).text
+  pub prefix : status ≡ WriteFault → GrowsByPrefix (written first) (written now) (drawing_of w octets).text
   pub cause : HasFaultCause (faults first) (faults now) WriteFault status
 
 -- the drawing has ended within these octets, whatever follows them

@@ -5,7 +5,11 @@ pub mod Progress
 pub mod Elements
 pub mod ShapeTexts
 pub mod Calls
+pub mod Pulses
+pub mod Pieces
 pub mod Picture
+pub mod Dump
+pub mod Written
 pub mod Drawn
 pub mod DrawSteps
 pub mod DrawCall

@@ -3,7 +3,7 @@ use Rattle.std.specs.Prelude.{◌≡◌, ℕ, ◌+◌, false, List, [], ◌∷�
 use Rattle.std.specs.Option.{option_to_list}
 use Rattle.t1s_drawing.specs.BarLaws.{HaveLanes, bars_from, last_bars}
 use Rattle.t1s_drawing.specs.Lines.{parts_of}
-use Rattle.t1s_drawing.specs.Picture.{line_step, picture}
+use Rattle.t1s_drawing.specs.Written.{line_step, drawing_of}
 use Rattle.t1s_drawing.specs.Progress.{Stepped, at_start}
 use Rattle.t1s_drawing.specs.ReadLines.{line_of}
 use Rattle.t1s_drawing.specs.declared.report.Event.{Event}
@@ -40,5 +40,5 @@ drawn_bars w (part ∷ next ∷ parts) p number = bars_after (line_step w p numb
 
 -- The bars of a picture that isn't refused are those of the events that its lines tell, which are at nodes of the picture.
 abbrev pub PicturesHaveBars : Type 0
-PicturesHaveBars = (w : Window) (octets : List ℕ) → (picture w octets).refused ≡ false →
+PicturesHaveBars = (w : Window) (octets : List ℕ) → (drawing_of w octets).refused ≡ false →
     (drawn_bars w (parts_of octets) at_start 1 ≡ bars_from w at_start (events_of (parts_of octets))) × HaveLanes w (events_of (parts_of octets))

@@ -1,6 +1,7 @@
 -- How far a report has come, and what each of its lines gives.
 use Rattle.std.specs.Prelude.{ℕ, ◌&&◌, ◌||◌, Bool, true, false, not, List, replicate, nat_lt, get_or, slice_set, Option, Some, None, Result, Ok, Err, if◌then◌else◌}
 use Rattle.t1s_drawing.specs.Shapes.{bar, mark, turn_of}
+use Rattle.t1s_drawing.specs.Pulses.{no_pulses, pulses_left, risen}
 use Rattle.t1s_drawing.specs.declared.report.Event.{Event}
 use Rattle.t1s_drawing.specs.declared.report.ReportLine.{ReportLine}
 use Rattle.t1s_drawing.specs.declared.report.ReportLine.TheVariants.{Event as EventLine, Settled as SettledLine, Totals as TotalsLine, Offer as OfferLine}
@@ -14,9 +15,9 @@ use Rattle.t1s_drawing.specs.declared.progress.Reason.TheVariants.{Order, Node}
 use Rattle.t1s_drawing.specs.declared.progress.Told.{Told}
 use Rattle.t1s_drawing.specs.declared.window.Window.{Window}
 
--- nothing was read, and nobody drives
+-- nothing was read, nobody drives, and no node has a pulse
 abbrev pub at_start : Progress
-at_start = record { driven = replicate 32 None; tick = 0; in_summary = false }
+at_start = record { driven = replicate 32 None; pulses = no_pulses; tick = 0; in_summary = false }
 
 -- what a node drives
 abbrev pub drive_at : Progress → ℕ → Option Drive
@@ -37,7 +38,7 @@ turned p event = record p { driven = opened p.driven event (turn_of event.what) 
 
 -- how far the report has come after an event
 abbrev pub after_event : Progress → Event → Progress
-after_event p event = record (turned p event) { tick = event.tick }
+after_event p event = record (turned p event) { tick = event.tick; pulses = risen (pulses_left p.pulses (nat_lt p.tick event.tick)) event }
 
 -- the bar that ends at the event
 abbrev pub ended_bar : Window → Progress → Event → Option (Option Part) → Option Shape
@@ -59,14 +60,14 @@ abbrev pub event_step : Window → Progress → Event → Stepped
 event_step w p event =
     if p.in_summary || nat_lt event.tick p.tick then Err Order
     else if not (is_lane w event.node) then Err Node
-    else Ok (after_event p event, record { bar = told_bar w p event; mark = mark w event })
+    else Ok (after_event p event, record { bar = told_bar w p event; mark = mark w event; event = Some event; before = p })
 
 -- what a line gives, and how far the report has come after it
 abbrev pub step : Window → Progress → ReportLine → Stepped
 step w p (EventLine event) = event_step w p event
-step w p SettledLine = if p.in_summary then Err Order else Ok (record p { in_summary = true }, record { bar = None; mark = Some Settled })
+step w p SettledLine = if p.in_summary then Err Order else Ok (record p { in_summary = true }, record { bar = None; mark = Some Settled; event = None; before = p })
 step w p (TotalsLine node) =
     if not p.in_summary then Err Order
     else if not (is_lane w node) then Err Node
-    else Ok (p, record { bar = None; mark = Some (Totals node) })
-step w p OfferLine = if not p.in_summary then Err Order else Ok (p, record { bar = None; mark = None })
+    else Ok (p, record { bar = None; mark = Some (Totals node); event = None; before = p })
+step w p OfferLine = if not p.in_summary then Err Order else Ok (p, record { bar = None; mark = None; event = None; before = p })

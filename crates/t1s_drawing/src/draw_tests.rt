@@ -68,3 +68,87 @@ fn faults_end_a_call_at_once(rt: HostRuntime) -> Result<(), Fail> {
     );
     Ok(())
 }
+
+const SCOPE: &[u8] = b"$scope module node_0 $end
+$var wire 1 Aa drives_0 $end
+$var wire 1 Ab beacon_0 $end
+$var wire 1 Ac commit_0 $end
+$var wire 1 Ad frame_0 $end
+$var wire 1 Ae status_0 $end
+$var wire 1 Af taken_0 $end
+$var wire 1 Ag refused_0 $end
+$var wire 1 Ah good_0 $end
+$var wire 1 Ai bad_0 $end
+$var wire 1 Aj jam_0 $end
+$var wire 1 Ak drop_0 $end
+$upscope $end
+";
+
+const START: &[u8] = b"#0\n0Aa\n0Ab\n0Ac\n0Ad\n0Ae\n0Af\n0Ag\n0Ah\n0Ai\n0Aj\n0Ak\n";
+
+/// The dump of a segment with one node, where this stands after the values at tick 0.
+fn dump_with(rt: &HostRuntime, changes: &[u8]) -> Result<Vec<u8>, Fail> {
+    let mut text = Vec::from_slice(rt.alloc(), b"$timescale 100 ns $end\n")?;
+    text.extend_from_slice(SCOPE)?;
+    text.extend_from_slice(b"$enddefinitions $end\n")?;
+    text.extend_from_slice(START)?;
+    text.extend_from_slice(changes)?;
+    Ok(text)
+}
+
+#[test]
+fn a_dump_has_the_changes_of_each_tick(rt: HostRuntime) -> Result<(), Fail> {
+    let table: [(&[u8], &[u8]); 6] = [
+        (b"settled never\n", b"#50\n"),
+        (
+            b"0 beacon 0\n20 quiet 0\nsettled never\nnode 0 sent 0\noffer 1 lost\n",
+            b"1Aa\n1Ab\n0Ac\n0Ad\n#20\n0Aa\n0Ab\n0Ac\n0Ad\n#50\n",
+        ),
+        (
+            b"7 taken 0 1\n9 commit 0\n9 leave 0 1\nsettled 3\n",
+            b"#7\n1Af\n#8\n0Af\n0Ag\n0Ah\n0Ai\n0Aj\n0Ak\n#9\n1Aa\n0Ab\n1Ac\n0Ad\n1Aa\n0Ab\n0Ac\n1Ad\n#50\n",
+        ),
+        (
+            b"8 arrive 0 good 00ff\n9 arrive 0 odd\n9 status 0 ok\nsettled 9\n",
+            b"#8\n1Ah\n#9\n0Af\n0Ag\n0Ah\n0Ai\n0Aj\n0Ak\n1Ai\n1Ae\n#10\n0Af\n0Ag\n0Ah\n0Ai\n0Aj\n0Ak\n#50\n",
+        ),
+        (
+            b"48 off 0 1\n48 jam 0 2\n49 drop 0 2\nsettled never\n",
+            b"#48\n1Ag\n1Aj\n#49\n0Af\n0Ag\n0Ah\n0Ai\n0Aj\n0Ak\n1Ak\n#50\n0Af\n0Ag\n0Ah\n0Ai\n0Aj\n0Ak\n",
+        ),
+        (
+            b"60 status 0 ok\n61 status 0 lost\n61 full 0 3\nsettled 60\n",
+            b"#60\n1Ae\n#61\n0Ae\n1Ag\n#62\n0Af\n0Ag\n0Ah\n0Ai\n0Aj\n0Ak\n",
+        ),
+    ];
+    for (report, changes) in table {
+        let (status, written) = drawn(&rt, &["wave", "50", "1"], report, (&[], &[]))?;
+        assert_eq!(rt; status, Status::Done);
+        let wanted = dump_with(&rt, changes)?;
+        assert_eq!(rt; written.as_slice() == wanted.as_slice(), true);
+    }
+    Ok(())
+}
+
+#[test]
+fn a_dump_ends_at_the_line_that_is_refused(rt: HostRuntime) -> Result<(), Fail> {
+    let table: [(&[u8], &[u8]); 4] = [
+        (b"", b"\n0Ak\nrefused 1 End\n"),
+        (b"5 beacon 0\n4 quiet 0\n", b"\n0Ad\nrefused 2 Order\n"),
+        (b"5 taken 0 1\n6 beacon 1\n", b"#5\n1Af\nrefused 2 Node\n"),
+        (b"5 wave 0\n", b"\n0Ak\nrefused 1 Line\n"),
+    ];
+    for (report, line) in table {
+        let (status, written) = drawn(&rt, &["wave", "50", "1"], report, (&[], &[]))?;
+        assert_eq!(rt; status, Status::Refused);
+        assert_eq!(rt; ends_with(written.as_slice(), line), true);
+    }
+    for words in [
+        ["wave", "0", "1"],
+        ["wave", "50", "0"],
+        ["wave", "50", "33"],
+    ] {
+        assert_eq!(rt; drawn(&rt, &words, b"", (&[], &[]))?.0, Status::Usage);
+    }
+    Ok(())
+}

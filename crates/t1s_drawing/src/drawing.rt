@@ -3,7 +3,7 @@ ghost use Rattle.std.specs.Prelude.{◌≡◌, ◌≢◌, ◌⊎◌, ◌+◌, �
 ghost use Rattle.t1s_drawing.specs.Calls.{HasFaultCause};
 ghost use Rattle.t1s_drawing.specs.Drawn.{Drawn, DrawEnd, DrawStop};
 ghost use Rattle.t1s_drawing.specs.DrawSteps.{octets_left, TextOutcome};
-ghost use Rattle.t1s_drawing.specs.Picture.{line_step, refused_line};
+ghost use Rattle.t1s_drawing.specs.Written.{line_step, refused_line};
 ghost use Rattle.t1s_drawing.specs.Progress.{at_start};
 
 use crate::parsing::line_of;

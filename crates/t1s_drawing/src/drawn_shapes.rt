@@ -4,9 +4,10 @@ ghost use Rattle.t1s_drawing.specs.ShapeTexts.{bar_text, box_text, bottom, colum
 
 use crate::report::{Event, Happening};
 use crate::shapes::{Part, Shape};
-use crate::texts::{begin_box, begin_words, end_box, end_words, number, text};
+use crate::texts::{begin_box, begin_words, end_box, end_words};
 use crate::window::Window;
 use t1s_base::Line;
+use t1s_waveform::{number, text};
 
 /// Where the first tick of the window stands.
 pub(crate) const LEFT: u64 = 70;

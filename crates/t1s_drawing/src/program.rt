@@ -2,10 +2,11 @@
 ghost use Rattle.std.specs.Prelude.{◌≡◌, ◌≤◌, ◌⊎◌, ◌↔◌, ℕ, List, [], ◌++◌, true, false, Some, None};
 ghost use Rattle.t1s_base.specs.Causes.{FaultCountRose};
 ghost use Rattle.t1s_base.specs.Octets.{Gives, Grows, GrowsByPrefix};
+ghost use Rattle.t1s_waveform.specs.Dumps.{IsDump};
 ghost use Rattle.t1s_drawing.specs.Calls.{HasFaultCause};
 ghost use Rattle.t1s_drawing.specs.Drawn.{Drawn, status_of};
-ghost use Rattle.t1s_drawing.specs.DrawCall.{AreWords, DrawCall, window_in, window_of, word_octets};
-ghost use Rattle.t1s_drawing.specs.Picture.{picture};
+ghost use Rattle.t1s_drawing.specs.DrawCall.{AreWords, DrawCall, dump_window, picture_window, window_in, window_of, word_octets};
+ghost use Rattle.t1s_drawing.specs.Written.{drawing_of};
 ghost use Rattle.t1s_drawing.specs.Xml.{IsDocument};
 ghost use Rattle.t1s_drawing.specs.declared.window.Window.{Window};
 
@@ -13,7 +14,7 @@ use crate::drawing::Drawing;
 use crate::parsing::small_number;
 use crate::progress::MOST_LANES;
 use crate::status::Status;
-use crate::window::Window;
+use crate::window::{Form, Window};
 use crate::writing::write_opening;
 use t1s_base::{Failed, Sink, Source};
 
@@ -21,13 +22,23 @@ use t1s_base::{Failed, Sink, Source};
 const PIECE: usize = 4096;
 
 /// The window of these numbers, where it has a tick and a node, and no more than 32 nodes.
-fn window_of(from: Option<u32>, until: Option<u32>, nodes: Option<u32>) -> Option<Window>
-    ensures { result ≡ window_of from until nodes }
+fn window_of(
+    form: Form,
+    from: Option<u32>,
+    until: Option<u32>,
+    nodes: Option<u32>,
+) -> Option<Window>
+    ensures { result ≡ window_of form from until nodes }
 {
     match (from, until, nodes) {
         (Some(from), Some(until), Some(nodes)) => {
             if from < until && 0 < nodes && nodes <= MOST_LANES {
-                Some(Window { from, until, nodes })
+                Some(Window {
+                    form,
+                    from,
+                    until,
+                    nodes,
+                })
             } else {
                 None
             }
@@ -36,16 +47,50 @@ fn window_of(from: Option<u32>, until: Option<u32>, nodes: Option<u32>) -> Optio
     }
 }
 
+/// The window of a picture.
+fn picture_window(word: &[u8], from: &[u8], until: &[u8], nodes: &[u8]) -> Option<Window>
+    ensures { result ≡ picture_window word.now from.now until.now nodes.now }
+{
+    if word == b"picture".as_slice() {
+        window_of(
+            Form::Picture,
+            small_number(from),
+            small_number(until),
+            small_number(nodes),
+        )
+    } else {
+        None
+    }
+}
+
+/// The window of a dump.
+fn dump_window(word: &[u8], until: &[u8], nodes: &[u8]) -> Option<Window>
+    ensures { result ≡ dump_window word.now until.now nodes.now }
+{
+    if word == b"wave".as_slice() {
+        window_of(
+            Form::Waveform,
+            Some(0),
+            small_number(until),
+            small_number(nodes),
+        )
+    } else {
+        None
+    }
+}
+
 /// The window that the words name.
 fn window_in(words: &[String]) -> Option<Window>
     ensures { result ≡ window_in (word_octets words.now) }
 {
     match words {
-        [word, from, until, nodes] if word.as_bytes() == b"picture".as_slice() => window_of(
-            small_number(from.as_bytes()),
-            small_number(until.as_bytes()),
-            small_number(nodes.as_bytes()),
+        [word, from, until, nodes] => picture_window(
+            word.as_bytes(),
+            from.as_bytes(),
+            until.as_bytes(),
+            nodes.as_bytes(),
         ),
+        [word, until, nodes] => { dump_window(word.as_bytes(), until.as_bytes(), nodes.as_bytes()) }
         _ => None,
     }
 }
@@ -74,7 +119,7 @@ fn read_report<S: Source, K: Sink>(
     }
 }
 
-/// Reads a report and writes its picture.
+/// Reads a report and writes what the window asks for.
 fn draw_window<S: Source, K: Sink>(w: &Window, source: &mut S, sink: &mut K) -> Status
     ensures { DrawCall S.left S.faults K.written K.faults K.finished w.now source.old source.new sink.old sink.new result }
 {
@@ -85,12 +130,14 @@ fn draw_window<S: Source, K: Sink>(w: &Window, source: &mut S, sink: &mut K) -> 
     }
 }
 
-/// Does all that the program does: takes the words of the command line, reads a report and writes its picture.
+/// Does all that the program does: takes the words of the command line, reads a report and writes its picture or its dump.
 ///
 /// The words are `picture FROM UNTIL NODES`: the first tick that is drawn, the tick after the last one, and how many nodes
-/// the segment has, numbered from 0. The report is that of the command `run`, and is read in pieces of at most 4096
-/// octets. The picture is an SVG, written in one pass: the lanes, the ticks and the legend, then what each line of the
-/// report gives, by one `write` call a line, and at its end the bars of what is still driven. No memory is taken.
+/// the segment has, numbered from 0; or `wave UNTIL NODES`. The report is that of the command `run`, and is read in pieces of
+/// at most 4096 octets. The picture is an SVG, written in one pass: the lanes, the ticks and the legend, then what each line
+/// of the report gives, by one `write` call a line, and at its end the bars of what is still driven. The dump is a value
+/// change dump (VCD) with a time unit of 100 ns, a tick: the wires of each node, then for each tick that has an event what it
+/// changes, and one tick later the ends of its pulses, and at its end the tick UNTIL. No memory is taken.
 ///
 /// The answers: `Usage` where the words are no others, and nothing was read or written. `ReadFault` and `WriteFault` where the
 /// source or the sink failed, at once. `Refused` where the input is no report: the last line says which line isn't, by its
@@ -102,19 +149,21 @@ pub fn draw<S: Source, K: Sink>(words: &[String], source: &mut S, sink: &mut K) 
     ensures write_fault { HasFaultCause (K.faults sink.old) (K.faults sink.new) Status.WriteFault result }
     ensures finishes { (result ≡ Status.Done) ⊎ (result ≡ Status.Refused) → K.finished sink.new ≡ true }
     ensures done { (w : Window) (octets : List ℕ) → AreWords words.now w → S.left source.old ≡ Some octets → result ≡ Status.Done →
-        ((picture w octets).refused ≡ false) × Grows (K.written sink.old) (K.written sink.new) (picture w octets).text × (S.left source.new ≡ Some []) }
-    // It is an XML document.
-    ensures document { (w : Window) (octets : List ℕ) → AreWords words.now w → S.left source.old ≡ Some octets → result ≡ Status.Done → IsDocument (picture w octets).text }
+        ((drawing_of w octets).refused ≡ false) × Grows (K.written sink.old) (K.written sink.new) (drawing_of w octets).text × (S.left source.new ≡ Some []) }
+    // A picture is an XML document.
+    ensures document { (w : Window) (octets : List ℕ) → AreWords words.now w → w.form ≡ Form.Picture → S.left source.old ≡ Some octets → result ≡ Status.Done → IsDocument (drawing_of w octets).text }
+    // A dump is a valid one.
+    ensures dump { (w : Window) (octets : List ℕ) → AreWords words.now w → w.form ≡ Form.Waveform → S.left source.old ≡ Some octets → result ≡ Status.Done → IsDump (drawing_of w octets).text }
     ensures refused { (w : Window) (octets : List ℕ) → AreWords words.now w → S.left source.old ≡ Some octets → result ≡ Status.Refused →
-        ((picture w octets).refused ≡ true) × Grows (K.written sink.old) (K.written sink.new) (picture w octets).text }
+        ((drawing_of w octets).refused ≡ true) × Grows (K.written sink.old) (K.written sink.new) (drawing_of w octets).text }
     ensures write_fault_text { (w : Window) (octets : List ℕ) → AreWords words.now w → S.left source.old ≡ Some octets → result ≡ Status.WriteFault →
-        GrowsByPrefix (K.written sink.old) (K.written sink.new) (picture w octets).text }
+        GrowsByPrefix (K.written sink.old) (K.written sink.new) (drawing_of w octets).text }
     ensures read_fault_text { (w : Window) → AreWords words.now w → result ≡ Status.ReadFault →
         (taken : List ℕ) × Gives (S.left source.old) (S.left source.new) taken ×
-        ((more : List ℕ) → GrowsByPrefix (K.written sink.old) (K.written sink.new) (picture w (taken ++ more)).text) }
+        ((more : List ℕ) → GrowsByPrefix (K.written sink.old) (K.written sink.new) (drawing_of w (taken ++ more)).text) }
     ensures completes { (w : Window) (octets : List ℕ) → AreWords words.now w → S.left source.old ≡ Some octets →
         ¬ (FaultCountRose (S.faults source.old) (S.faults source.new)) → ¬ (FaultCountRose (K.faults sink.old) (K.faults sink.new)) →
-        result ≡ status_of (picture w octets) }
+        result ≡ status_of (drawing_of w octets) }
 {
     match window_in(words) {
         Some(w) => draw_window(&w, source, sink),

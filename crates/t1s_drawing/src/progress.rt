@@ -2,6 +2,7 @@
 ghost use Rattle.std.specs.Prelude.{◌≡◌, ◌<◌, Ok, Err, IfOk, IfErr, None, get_or};
 ghost use Rattle.t1s_drawing.specs.Progress.{at_start, drive_from, turned, event_step, step, is_lane, told_bar};
 
+use crate::pulses::Pulses;
 use crate::report::{Event, ReportLine};
 use crate::shapes::{Drive, Part, Shape, bar, mark, turn_of};
 use crate::window::Window;
@@ -26,21 +27,27 @@ pub enum Reason {
     End,
 }
 
-/// The shapes that a line gives.
+/// What each node drives, which nodes have a pulse in the tick of the latest event, that tick, and whether the summary has
+/// begun.
+#[derive(Clone, Copy)]
+pub(crate) struct Progress {
+    pub(crate) driven: [Option<Drive>; MOST_LANES as usize],
+    pub(crate) pulses: Pulses,
+    pub(crate) tick: u32,
+    pub(crate) in_summary: bool,
+}
+
+/// What a line gives.
 #[derive(Clone, Copy)]
 pub(crate) struct Told {
     /// What its node drove up to its tick.
     pub(crate) bar: Option<Shape>,
     /// What it tells by itself.
     pub(crate) mark: Option<Shape>,
-}
-
-/// What each node drives, the tick of the latest event, and whether the summary has begun.
-#[derive(Drop)]
-pub(crate) struct Progress {
-    pub(crate) driven: [Option<Drive>; MOST_LANES as usize],
-    pub(crate) tick: u32,
-    pub(crate) in_summary: bool,
+    /// The event that it tells.
+    pub(crate) event: Option<Event>,
+    /// How far the report had come before it.
+    pub(crate) before: Progress,
 }
 
 /// What is driven from this tick on.
@@ -61,12 +68,13 @@ fn is_lane(w: &Window, node: u32) -> bool
 }
 
 impl Progress {
-    /// Nothing was read, and nobody drives.
+    /// Nothing was read, nobody drives, and no node has a pulse.
     pub(crate) fn new() -> Progress
         ensures { result ≡ at_start }
     {
         Progress {
             driven: [None; MOST_LANES as usize],
+            pulses: Pulses::none(),
             tick: 0,
             in_summary: false,
         }
@@ -109,10 +117,14 @@ impl Progress {
         if !is_lane(w, event.node) {
             return Err(Reason::Node);
         }
+        let before = *self;
+        self.pulses = before.pulses.after(before.tick < event.tick, event);
         self.tick = event.tick;
         Ok(Told {
             bar: self.turn(w, event),
             mark: mark(w, event),
+            event: Some(event),
+            before,
         })
     }
 
@@ -127,10 +139,13 @@ impl Progress {
                 if self.in_summary {
                     return Err(Reason::Order);
                 }
+                let before = *self;
                 self.in_summary = true;
                 Ok(Told {
                     bar: None,
                     mark: Some(Shape::Settled),
+                    event: None,
+                    before,
                 })
             }
             ReportLine::Totals(node) => {
@@ -143,6 +158,8 @@ impl Progress {
                 Ok(Told {
                     bar: None,
                     mark: Some(Shape::Totals(node)),
+                    event: None,
+                    before: *self,
                 })
             }
             ReportLine::Offer => {
@@ -152,6 +169,8 @@ impl Progress {
                 Ok(Told {
                     bar: None,
                     mark: None,
+                    event: None,
+                    before: *self,
                 })
             }
         }

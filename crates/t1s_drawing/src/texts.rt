@@ -1,26 +1,9 @@
-// What the text of a picture is put together from.
-ghost use Rattle.std.specs.Prelude.{◌≡◌, ◌+◌, ◌*◌, ◌≤◌, ◌++◌, length, decimal};
+// The elements of a picture.
+ghost use Rattle.std.specs.Prelude.{◌≡◌, ◌+◌, ◌≤◌, length};
 ghost use Rattle.t1s_drawing.specs.Elements.{begin_words, end_words, begin_box, end_box};
 
-use t1s_base::{Line, put_number, put_text};
-
-/// Appends a text that fits.
-pub(crate) fn text(out: &mut Line, text: &[u8])
-    requires { length out.old + length text.now ≤ 4096 }
-    ensures value { out.new ≡ out.old ++ text.now }
-    ensures len { length out.new ≡ length out.old + length text.now }
-{
-    let _ = put_text(out, text);
-}
-
-/// Appends a number, where twenty digits fit.
-pub(crate) fn number(out: &mut Line, n: u64)
-    requires { length out.old + 20 ≤ 4096 }
-    ensures value { out.new ≡ out.old ++ decimal n }
-    ensures len { length out.new ≤ length out.old + 20 }
-{
-    let _ = put_number(out, n);
-}
+use t1s_base::Line;
+use t1s_waveform::{number, text};
 
 /// Begins an element of words, of that class, that starts there.
 pub(crate) fn begin_words(out: &mut Line, class: &[u8], x: u64, y: u64)

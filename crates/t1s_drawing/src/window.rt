@@ -1,8 +1,16 @@
-// The part of a run that is drawn.
+// The part of a run that is drawn, and in which form.
 
-/// The ticks that are drawn, from the one up to the other, and how many nodes there are.
+/// What is written of a report.
+#[derive(Clone, Copy)]
+pub(crate) enum Form {
+    Picture,
+    Waveform,
+}
+
+/// The form, the ticks that are drawn, from the one up to the other, and how many nodes there are.
 #[derive(Clone, Copy)]
 pub(crate) struct Window {
+    pub(crate) form: Form,
     pub(crate) from: u32,
     pub(crate) until: u32,
     pub(crate) nodes: u32,

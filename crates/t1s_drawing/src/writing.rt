@@ -1,15 +1,19 @@
-// How the parts of a picture are written, each shape by one `write` call.
+// How the parts of a picture or a dump are written, each text by one `write` call.
 ghost use Rattle.std.specs.Prelude.{◌≡◌, ◌+◌, ◌≤◌, ◌≢◌, ◌⊎◌, true, List, [], ◌++◌, length, codes, decimal};
 ghost use Rattle.t1s_drawing.specs.Calls.{HasFaultCause, Wrote};
-ghost use Rattle.t1s_drawing.specs.Picture.{closing, each_text, grid_at, head, head_text, height, opening, piece_shape, piece_text, reason_name, refused_line, told_text, width, with_grid, with_lanes};
+ghost use Rattle.t1s_waveform.specs.Dumps.{items_text};
+ghost use Rattle.t1s_drawing.specs.Pieces.{each_text, falls_of, grid_at, piece_shape, piece_text};
+ghost use Rattle.t1s_drawing.specs.Picture.{head, head_text, height, picture_closing, picture_opening, shapes_text, width, with_grid, with_lanes};
 ghost use Rattle.t1s_drawing.specs.Progress.{at_start};
+ghost use Rattle.t1s_drawing.specs.Written.{closing, opening, reason_name, refused_line, told_text};
 
 use crate::drawn_shapes::{label, put_optional, summary_y};
+use crate::dump::{write_changes, write_dump_opening, write_moved};
 use crate::progress::{Progress, Reason, Told};
 use crate::shapes::{Shape, bar};
-use crate::texts::{number, text};
-use crate::window::Window;
+use crate::window::{Form, Window};
 use t1s_base::{Failed, Line, Sink};
+use t1s_waveform::{number, put_falls, put_scope, put_start, text};
 
 /// The parts of a picture that have a shape for each number from 0 on.
 #[derive(Clone, Copy)]
@@ -22,6 +26,12 @@ pub(crate) enum Piece {
     Legend,
     /// The bar of what each node drives when the run ends.
     Ends,
+    /// The declarations of the wires of each node.
+    Scopes,
+    /// The values of the wires of each node at tick 0.
+    Starts,
+    /// The ends of the pulses of each node.
+    Falls,
 }
 
 /// The line at a hundred of ticks, where the window shows it.
@@ -36,7 +46,7 @@ fn grid_at(w: &Window, row: u32) -> Option<Shape>
     }
 }
 
-/// The shape of a part that has this number.
+/// The shape of a part of a picture that has this number.
 fn piece_shape(piece: Piece, w: &Window, progress: &Progress, row: u32) -> Option<Shape>
     ensures { result ≡ piece_shape piece w.now progress.now row }
 {
@@ -45,11 +55,37 @@ fn piece_shape(piece: Piece, w: &Window, progress: &Progress, row: u32) -> Optio
         Piece::Grid => grid_at(w, row),
         Piece::Legend => Some(Shape::Legend(row)),
         Piece::Ends => bar(w, row, progress.drive_of(row), w.until),
+        Piece::Scopes | Piece::Starts | Piece::Falls => None,
+    }
+}
+
+/// Appends the changes by which the pulses of a node fall, if it has one.
+fn put_falls_of(out: &mut Line, progress: &Progress, node: u32)
+    requires { length out.old ≤ 4000 }
+    ensures { out.new ≡ out.old ++ items_text (falls_of progress.now node) }
+{
+    if progress.pulses.is_up(node) {
+        put_falls(out, node);
+    }
+}
+
+/// The text of a part that has this number, in an empty line.
+fn put_piece(out: &mut Line, piece: Piece, w: &Window, progress: &Progress, row: u32)
+    requires { out.old ≡ [] }
+    ensures { out.new ≡ piece_text piece w.now progress.now row }
+{
+    match piece {
+        Piece::Scopes => put_scope(out, row),
+        Piece::Starts => put_start(out, row),
+        Piece::Falls => put_falls_of(out, progress, row),
+        Piece::Lanes | Piece::Grid | Piece::Legend | Piece::Ends => {
+            put_optional(out, w, b"", piece_shape(piece, w, progress, row));
+        }
     }
 }
 
 /// Writes a line.
-fn write_line<K: Sink>(line: &Line, sink: &mut K) -> Result<(), Failed>
+pub(crate) fn write_line<K: Sink>(line: &Line, sink: &mut K) -> Result<(), Failed>
     ensures { Wrote K.written K.faults line.now sink.old sink.new result }
 {
     match sink.write(line.as_slice()) {
@@ -58,7 +94,7 @@ fn write_line<K: Sink>(line: &Line, sink: &mut K) -> Result<(), Failed>
     }
 }
 
-/// Writes the shape of a part that has this number.
+/// Writes the text of a part that has this number.
 fn write_piece<K: Sink>(
     piece: Piece,
     w: &Window,
@@ -69,12 +105,12 @@ fn write_piece<K: Sink>(
     ensures { Wrote K.written K.faults (piece_text piece w.now progress.now row) sink.old sink.new result }
 {
     let mut line = Line::new();
-    put_optional(&mut line, w, b"", piece_shape(piece, w, progress, row));
+    put_piece(&mut line, piece, w, progress, row);
     write_line(&line, sink)
 }
 
-/// Writes the shapes of a part that have the numbers below `count`.
-fn write_each<K: Sink>(
+/// Writes the texts of a part that have the numbers below `count`.
+pub(crate) fn write_each<K: Sink>(
     piece: Piece,
     w: &Window,
     progress: &Progress,
@@ -170,13 +206,13 @@ fn write_grid<K: Sink>(w: &Window, progress: &Progress, sink: &mut K) -> Result<
 }
 
 /// Writes all that stands before the shapes of the lines.
-pub(crate) fn write_opening<K: Sink>(
+fn write_picture_opening<K: Sink>(
     w: &Window,
     progress: &Progress,
     sink: &mut K,
 ) -> Result<(), Failed>
     requires { progress.now ≡ at_start }
-    ensures { Wrote K.written K.faults (opening w.now) sink.old sink.new result }
+    ensures { Wrote K.written K.faults (picture_opening w.now) sink.old sink.new result }
 {
     match write_grid(w, progress, sink) {
         Ok(()) => write_each(Piece::Legend, w, progress, 5, sink),
@@ -195,12 +231,12 @@ fn write_tail<K: Sink>(sink: &mut K) -> Result<(), Failed>
 }
 
 /// Writes all that stands after the shapes of the lines.
-pub(crate) fn write_closing<K: Sink>(
+fn write_picture_closing<K: Sink>(
     w: &Window,
     progress: &Progress,
     sink: &mut K,
 ) -> Result<(), Failed>
-    ensures { Wrote K.written K.faults (closing w.now progress.now) sink.old sink.new result }
+    ensures { Wrote K.written K.faults (picture_closing w.now progress.now) sink.old sink.new result }
 {
     match write_each(Piece::Ends, w, progress, w.nodes, sink) {
         Ok(()) => write_tail(sink),
@@ -209,6 +245,31 @@ pub(crate) fn write_closing<K: Sink>(
 }
 
 /// Writes the shapes that a line gives.
+fn write_shapes<K: Sink>(w: &Window, line: &[u8], told: Told, sink: &mut K) -> Result<(), Failed>
+    ensures { Wrote K.written K.faults (shapes_text w.now line.now told) sink.old sink.new result }
+{
+    let mut out = Line::new();
+    put_optional(&mut out, w, line, told.bar);
+    put_optional(&mut out, w, line, told.mark);
+    write_line(&out, sink)
+}
+
+/// Writes all that stands before the texts of the lines.
+pub(crate) fn write_opening<K: Sink>(
+    w: &Window,
+    progress: &Progress,
+    sink: &mut K,
+) -> Result<(), Failed>
+    requires { progress.now ≡ at_start }
+    ensures { Wrote K.written K.faults (opening w.now) sink.old sink.new result }
+{
+    match w.form {
+        Form::Picture => write_picture_opening(w, progress, sink),
+        Form::Waveform => write_dump_opening(w, progress, sink),
+    }
+}
+
+/// Writes what a line gives.
 pub(crate) fn write_told<K: Sink>(
     w: &Window,
     line: &[u8],
@@ -217,10 +278,24 @@ pub(crate) fn write_told<K: Sink>(
 ) -> Result<(), Failed>
     ensures { Wrote K.written K.faults (told_text w.now line.now told) sink.old sink.new result }
 {
-    let mut out = Line::new();
-    put_optional(&mut out, w, line, told.bar);
-    put_optional(&mut out, w, line, told.mark);
-    write_line(&out, sink)
+    match w.form {
+        Form::Picture => write_shapes(w, line, told, sink),
+        Form::Waveform => write_changes(w, &told.before, told.event, sink),
+    }
+}
+
+/// Writes all that stands after the texts of the lines.
+pub(crate) fn write_closing<K: Sink>(
+    w: &Window,
+    progress: &Progress,
+    sink: &mut K,
+) -> Result<(), Failed>
+    ensures { Wrote K.written K.faults (closing w.now progress.now) sink.old sink.new result }
+{
+    match w.form {
+        Form::Picture => write_picture_closing(w, progress, sink),
+        Form::Waveform => write_moved(w, progress, w.until, sink),
+    }
 }
 
 /// The name of a reason.

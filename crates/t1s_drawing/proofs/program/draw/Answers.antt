@@ -3,6 +3,8 @@ use Rattle.t1s_drawing.specs.DrawCall.{DrawCall, window_in, word_octets}
 use Rattle.t1s_drawing.specs.declared.window.Window.{Window}
 use Rattle.t1s_drawing.proofs.DrawCalls.{completes, finishes, no_usage, says_done, says_prefix, says_refused, sink_cause}
 use Rattle.t1s_drawing.proofs.Documents.{picture_document}
+use Rattle.t1s_drawing.proofs.DumpDocuments.{dump_valid}
+use Rattle.t1s_drawing.proofs.DumpWords.{few_nodes}
 use Rattle.t1s_drawing.proofs.program.draw.Goals as goal
 
 -- the words name no other window
@@ -59,7 +61,13 @@ returns-in-Some-clause-completes g c w octets words =
     completes g.S.Source.left g.S.Source.faults g.K.Sink.written g.K.Sink.faults g.K.Sink.finished w c.args.source.now c.draw_window.new.source c.args.sink.now c.draw_window.new.sink c.draw_window.result (rw same at c.draw_window.ensures) octets
 
 pub returns-in-Some-clause-document : goal.returns-in-Some-clause-document
-returns-in-Some-clause-document g c w octets words told e =
+returns-in-Some-clause-document g c w octets words form told e =
     let same : c.in-Some.w ≡ w = same_window (window_in (word_octets c.args.words.now)) c.in-Some.w w (sym c.window_in.ensures ∙ c.in-Some.is) words in
-    picture_document w octets
+    picture_document w octets form
+    (says_done g.S.Source.left g.S.Source.faults g.K.Sink.written g.K.Sink.faults g.K.Sink.finished w c.args.source.now c.draw_window.new.source c.args.sink.now c.draw_window.new.sink c.draw_window.result (rw same at c.draw_window.ensures) octets told e).0
+
+pub returns-in-Some-clause-dump : goal.returns-in-Some-clause-dump
+returns-in-Some-clause-dump g c w octets words form told e =
+    let same : c.in-Some.w ≡ w = same_window (window_in (word_octets c.args.words.now)) c.in-Some.w w (sym c.window_in.ensures ∙ c.in-Some.is) words in
+    dump_valid w octets form (few_nodes (word_octets c.args.words.now) w words)
     (says_done g.S.Source.left g.S.Source.faults g.K.Sink.written g.K.Sink.faults g.K.Sink.finished w c.args.source.now c.draw_window.new.source c.args.sink.now c.draw_window.new.sink c.draw_window.result (rw same at c.draw_window.ensures) octets told e).0

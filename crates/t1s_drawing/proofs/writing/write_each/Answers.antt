@@ -1,5 +1,5 @@
 use Rattle.std.proofs.Common.{arith}
-use Rattle.t1s_drawing.specs.Picture.{piece_text}
+use Rattle.t1s_drawing.specs.Pieces.{piece_text}
 use Rattle.t1s_drawing.proofs.Pieces.{each_part, each_then}
 use Rattle.t1s_drawing.proofs.Writes.{wrote_nothing}
 use Rattle.t1s_drawing.proofs.writing.write_each.Goals as goal

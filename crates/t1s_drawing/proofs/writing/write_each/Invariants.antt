@@ -1,7 +1,7 @@
 use Rattle.std.proofs.Common.{Ok}
 use Rattle.t1s_base.specs.declared.sources.Failed.{Failed}
 use Rattle.t1s_drawing.specs.Calls.{Wrote}
-use Rattle.t1s_drawing.specs.Picture.{each_text, piece_text}
+use Rattle.t1s_drawing.specs.Pieces.{each_text, piece_text}
 use Rattle.t1s_drawing.proofs.writing.write_each.Given as goal
 
 abbrev pub invariant-loop-row : goal.invariant-loop-row

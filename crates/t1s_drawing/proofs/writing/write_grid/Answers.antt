@@ -1,5 +1,6 @@
 use Rattle.std.proofs.Common.{◌+◌, ◌/◌}
-use Rattle.t1s_drawing.specs.Picture.{each_text, piece_text, with_lanes}
+use Rattle.t1s_drawing.specs.Pieces.{each_text, piece_text}
+use Rattle.t1s_drawing.specs.Picture.{with_lanes}
 use Rattle.t1s_drawing.specs.Progress.{at_start}
 use Rattle.t1s_drawing.specs.declared.writing.Piece.TheVariants.{Grid}
 use Rattle.t1s_drawing.proofs.Writes.{wrote_part, wrote_then}

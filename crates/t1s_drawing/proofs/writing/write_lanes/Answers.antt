@@ -1,4 +1,5 @@
-use Rattle.t1s_drawing.specs.Picture.{each_text, head_text, piece_text}
+use Rattle.t1s_drawing.specs.Pieces.{each_text, piece_text}
+use Rattle.t1s_drawing.specs.Picture.{head_text}
 use Rattle.t1s_drawing.specs.Progress.{at_start}
 use Rattle.t1s_drawing.specs.declared.writing.Piece.TheVariants.{Lanes}
 use Rattle.t1s_drawing.proofs.Writes.{wrote_part, wrote_then}

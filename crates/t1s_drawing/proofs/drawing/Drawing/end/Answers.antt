@@ -1,5 +1,5 @@
 use Rattle.std.proofs.Common.{◌≡◌, ◌≤◌, ◌<◌, ◌⊎◌, ℕ, List, [], ◌∷◌, length, refl, inl, inr, arith, true, false}
-use Rattle.t1s_drawing.specs.Picture.{closing}
+use Rattle.t1s_drawing.specs.Written.{closing}
 use Rattle.t1s_drawing.specs.declared.status.Status.TheVariants.{Done}
 use Rattle.t1s_drawing.proofs.Draws.{early_end, ended_early, ended_whole}
 use Rattle.t1s_drawing.proofs.Writes.{outcome_failed, outcome_finished}

@@ -1,4 +1,4 @@
-use Rattle.t1s_drawing.specs.Picture.{refused_line}
+use Rattle.t1s_drawing.specs.Written.{refused_line}
 use Rattle.t1s_drawing.specs.declared.status.Status.TheVariants.{Refused}
 use Rattle.t1s_drawing.proofs.Writes.{outcome_finished}
 use Rattle.t1s_drawing.proofs.drawing.Drawing.refuse.Goals as goal

@@ -2,7 +2,7 @@ use Rattle.std.proofs.Common.{◌+◌, ap}
 use Rattle.t1s_base.specs.declared.sources.Failed.{Failed}
 use Rattle.std.proofs.Common.{Ok, Err, ℕ}
 use Rattle.t1s_drawing.specs.Calls.{Wrote}
-use Rattle.t1s_drawing.specs.Picture.{told_text}
+use Rattle.t1s_drawing.specs.Written.{told_text}
 use Rattle.t1s_drawing.specs.declared.status.Status.TheVariants.{Done}
 use Rattle.t1s_drawing.proofs.Draws.{line_refused, line_stopped, line_taken}
 use Rattle.t1s_drawing.proofs.Writes.{outcome_failed}

@@ -1,8 +1,8 @@
 use Rattle.std.proofs.Common.{codes}
-use Rattle.t1s_drawing.specs.Picture.{each_text, piece_text}
+use Rattle.t1s_drawing.specs.Pieces.{each_text, piece_text}
 use Rattle.t1s_drawing.specs.declared.writing.Piece.TheVariants.{Ends}
 use Rattle.t1s_drawing.proofs.Writes.{wrote_part, wrote_then}
-use Rattle.t1s_drawing.proofs.writing.write_closing.Goals as goal
+use Rattle.t1s_drawing.proofs.writing.write_picture_closing.Goals as goal
 
 pub returns-in-Ok : goal.returns-in-Ok
 returns-in-Ok g c =

@@ -1,8 +1,9 @@
-use Rattle.t1s_drawing.specs.Picture.{each_text, piece_text, with_grid}
+use Rattle.t1s_drawing.specs.Pieces.{each_text, piece_text}
+use Rattle.t1s_drawing.specs.Picture.{with_grid}
 use Rattle.t1s_drawing.specs.Progress.{at_start}
 use Rattle.t1s_drawing.specs.declared.writing.Piece.TheVariants.{Legend}
 use Rattle.t1s_drawing.proofs.Writes.{wrote_part, wrote_then}
-use Rattle.t1s_drawing.proofs.writing.write_opening.Goals as goal
+use Rattle.t1s_drawing.proofs.writing.write_picture_opening.Goals as goal
 
 pub returns-in-Ok : goal.returns-in-Ok
 returns-in-Ok g c =

@@ -52,6 +52,28 @@ module _ {K : Type 0} (written_to : K → Option (List ℕ)) (faults : K → ℕ
   }
 
   module _ (s : Script) (node t : ℕ) (before : Writer K) (capture : WriterState) (so_far : Writer K) (h : CaptureProgress s node t before capture so_far) where
+    -- some ticks more were handed in
+    pub captured_more : (n : ℕ) (ticks : List Tick) (next : WriterState) (octets : List ℕ) (after : Writer K) → ticks_heard s node (t + n) ≡ ticks_heard s node t ++ ticks →
+        WriterStands (ticks_heard s node t ++ ticks) (h.given ++ octets) next → next.node ≡ capture.node → next.ticks ≡ capture.ticks + n → WriterStep written_to faults finished so_far octets after →
+        CaptureProgress s node (t + n) before next after
+    captured_more n ticks next octets after heard writes node_is more puts = record {
+      given = h.given ++ octets;
+      writes = rw heard writes;
+      node_is = node_is ∙ h.node_is;
+      few = omega (arith, h.few, more);
+      puts = rw (sym (append_assoc (header node) h.given octets)) (step_more written_to faults finished before so_far after (header node ++ h.given) octets h.puts puts);
+    }
+
+    -- the node hears nothing in ticks that the script doesn't give it
+    pub captured_none_more : (n : ℕ) → ticks_heard s node (t + n) ≡ ticks_heard s node t → CaptureProgress s node (t + n) before capture so_far
+    captured_none_more n none = record {
+      given = h.given;
+      writes = rw none h.writes;
+      node_is = h.node_is;
+      few = omega (arith, h.few);
+      puts = h.puts;
+    }
+
     heard-more : (ticks : List Tick) → option_to_list (heard_by s node t) ≡ ticks → ticks_heard s node (t + 1) ≡ ticks_heard s node t ++ ticks
     heard-more ticks e = events_below-more (λ u. option_to_list (heard_by s node u)) t ∙ ap (λ (ts : List Tick). ticks_heard s node t ++ ts) e
 
@@ -59,23 +81,11 @@ module _ {K : Type 0} (written_to : K → Option (List ℕ)) (faults : K → ℕ
     pub captured_tick : (tick : Tick) (next : WriterState) (octets : List ℕ) (after : Writer K) → option_to_list (heard_by s node t) ≡ tick ∷ [] →
         WriterStands (ticks_heard s node t ++ tick ∷ []) (h.given ++ octets) next → next.node ≡ capture.node → next.ticks ≡ capture.ticks + 1 → WriterStep written_to faults finished so_far octets after →
         CaptureProgress s node (t + 1) before next after
-    captured_tick tick next octets after heard writes node_is more puts = record {
-      given = h.given ++ octets;
-      writes = rw (heard-more (tick ∷ []) heard) writes;
-      node_is = node_is ∙ h.node_is;
-      few = omega (arith, h.few);
-      puts = rw (sym (append_assoc (header node) h.given octets)) (step_more written_to faults finished before so_far after (header node ++ h.given) octets h.puts puts);
-    }
+    captured_tick tick next octets after heard = captured_more 1 (tick ∷ []) next octets after (heard-more (tick ∷ []) heard)
 
-    -- the node hears nothing in a tick that the script doesn't give it
+    -- or none
     pub captured_no_tick : option_to_list (heard_by s node t) ≡ [] → CaptureProgress s node (t + 1) before capture so_far
-    captured_no_tick none = record {
-      given = h.given;
-      writes = rw (heard-more [] none ∙ append-nil (ticks_heard s node t)) h.writes;
-      node_is = h.node_is;
-      few = omega (arith, h.few);
-      puts = h.puts;
-    }
+    captured_no_tick none = captured_none_more 1 (heard-more [] none ∙ append-nil (ticks_heard s node t))
 
     -- the last octets are put, where the run was played to its end or the writer stopped in it
     pub captured_whole : (octets : List ℕ) (after : Writer K) → t ≤ s.end → (so_far.stopped ≡ true) ⊎ (t ≡ s.end) →

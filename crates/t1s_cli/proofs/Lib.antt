@@ -1,3 +1,4 @@
+pub mod CalmTicks
 pub mod CaptureSteps
 pub mod TextEnds
 mod GivenLines

@@ -31,9 +31,14 @@ fn write_capture<K: Sink>(seg: &mut Segment, node: u8, writer: &mut Writer<'_, K
     let mut capture = CaptureWriter::new(node);
     writer.put_octets(capture.head().as_slice());
     while goes_on(seg, writer) {
-        seg.tick(&mut Unread);
-        if let Some((heard, own)) = seg.heard(node) {
-            writer.put_octets(capture.heard(heard, own).as_slice());
+        let calm = seg.skip(u64::MAX);
+        if calm == 0 {
+            seg.tick(&mut Unread);
+            if let Some((heard, own)) = seg.heard(node) {
+                writer.put_octets(capture.heard(heard, own).as_slice());
+            }
+        } else if seg.heard(node).is_some() {
+            writer.put_octets(capture.quiet(calm).as_slice());
         }
     }
     writer.put_octets(capture.finish().as_slice());

@@ -5,7 +5,7 @@ use std::alloc::Global;
 use std::process::Abort;
 use std::test::Fail;
 
-const SCRIPT: &[u8] = b"t1s 1\ncount 3\nnode 0 0 0\nnode 1 1 2\nnode 2 2 5\nend 8300\n";
+pub(crate) const SCRIPT: &[u8] = b"t1s 1\ncount 3\nnode 0 0 0\nnode 1 1 2\nnode 2 2 5\nend 8300\n";
 
 const AT_NODE_2: &[u8] =
     b"T1SC\x01\x02\x20\x00\x00\x20\x45\x08\x08\x08\x08\x08\x20\x00\x00\x00\x13\x21";

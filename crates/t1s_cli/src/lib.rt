@@ -34,16 +34,28 @@ mod capture_tests;
 #[cfg(test)]
 mod collision_rows;
 #[cfg(test)]
+mod counted_calls;
+#[cfg(test)]
+mod cut_tests;
+#[cfg(test)]
 mod decode_tests;
+#[cfg(test)]
+mod fault_tests;
 #[cfg(test)]
 mod generated_tests;
 #[cfg(test)]
 mod json_tests;
+#[cfg(test)]
+mod noise_rows;
+#[cfg(test)]
+mod noise_tests;
 #[cfg(test)]
 mod offer_rows;
 #[cfg(test)]
 mod offer_tests;
 #[cfg(test)]
 mod pcap_tests;
+#[cfg(test)]
+mod stream_tests;
 #[cfg(test)]
 mod tests;

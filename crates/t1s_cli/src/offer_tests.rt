@@ -10,9 +10,10 @@ use crate::offer_rows::{
     FULL_LOAD, FULL_LOAD_REPORT, LATE_FOLLOWER, LATE_FOLLOWER_REPORT, LATE_OFF, LATE_OFF_REPORT,
     ONE_FRAME, ONE_FRAME_REPORT, Part, SHORT_FRAME,
 };
-use crate::tests::{Row, call, check_rows, check_texts};
+use crate::tests::{Row, call, check_rows};
 use crate::{Status, play};
 use std::alloc::{AllocError, Global};
+use std::process::Abort;
 use std::test::Fail;
 use t1s_base::{Failed, QuietSource, Sink, WriteStop};
 use t1s_script::read_script;
@@ -31,28 +32,41 @@ pub(crate) fn joined(alloc: Global, parts: &[Part]) -> Result<Vec<u8>, AllocErro
     Ok(octets)
 }
 
+/// Sees that each script's run has its report.
+pub(crate) fn check_reports(
+    rt: &impl Abort,
+    alloc: Global,
+    table: &[(&[u8], &[Part])],
+) -> Result<(), AllocError> {
+    for entry in table {
+        let report = joined(alloc, entry.1)?;
+        let row: Row<'_> = (entry.0, &[], &[], Status::Done, report.as_slice());
+        check_rows(rt, alloc, &["run"], &[row])?;
+    }
+    Ok(())
+}
+
 #[test]
 fn offers_are_run(rt: HostRuntime) -> Result<(), Fail> {
-    let table: [(&[u8], &[Part]); 13] = [
-        (ONE_FRAME, ONE_FRAME_REPORT),
-        (SHORT_FRAME, ONE_FRAME_REPORT),
-        (TWO_FRAMES, TWO_FRAMES_REPORT),
-        (TWO_FRAMES_ANY_DRAW, TWO_FRAMES_REPORT),
-        (BURST, BURST_REPORT),
-        (BURST_OF_ONE, BURST_OF_ONE_REPORT),
-        (FULL_LINE, FULL_LINE_REPORT),
-        (LATE_FOLLOWER, LATE_FOLLOWER_REPORT),
-        (LATE_OFF, LATE_OFF_REPORT),
-        (AT_THE_START, AT_THE_START_REPORT),
-        (EQUAL_DRAWS, EQUAL_DRAWS_REPORT),
-        (FULL_LOAD, FULL_LOAD_REPORT),
-        (JAMMED, JAMMED_REPORT),
-    ];
-    for row in table {
-        let report = joined(rt.alloc(), row.1)?;
-        let entry: (&[u8], &[u8]) = (row.0, report.as_slice());
-        check_texts(&rt, rt.alloc(), &["run"], Status::Done, &[entry])?;
-    }
+    check_reports(
+        &rt,
+        rt.alloc(),
+        &[
+            (ONE_FRAME, ONE_FRAME_REPORT),
+            (SHORT_FRAME, ONE_FRAME_REPORT),
+            (TWO_FRAMES, TWO_FRAMES_REPORT),
+            (TWO_FRAMES_ANY_DRAW, TWO_FRAMES_REPORT),
+            (BURST, BURST_REPORT),
+            (BURST_OF_ONE, BURST_OF_ONE_REPORT),
+            (FULL_LINE, FULL_LINE_REPORT),
+            (LATE_FOLLOWER, LATE_FOLLOWER_REPORT),
+            (LATE_OFF, LATE_OFF_REPORT),
+            (AT_THE_START, AT_THE_START_REPORT),
+            (EQUAL_DRAWS, EQUAL_DRAWS_REPORT),
+            (FULL_LOAD, FULL_LOAD_REPORT),
+            (JAMMED, JAMMED_REPORT),
+        ],
+    )?;
     Ok(())
 }
 
@@ -124,7 +138,7 @@ fn each_line_is_one_write(rt: HostRuntime) -> Result<(), Fail> {
 }
 
 /// The capture of node 0, which hears the run of one piece alone.
-const AT_NODE_0: &[u8] =
+pub(crate) const AT_NODE_0: &[u8] =
     b"\x54\x31\x53\x43\x01\x00\x20\x00\x00\x20\xF4\x18\x18\x04\x04\x0B\x0B\x0B\x09\x16\x16\x16\x1D\x17\
 \x16\x1C\x1B\x1B\x1D\x16\x1A\x0A\x0A\x0F\x16\x12\x0B\x0F\x0E\x0F\x0E\x0F\x09\x0F\x09\x17\x1C\x17\
 \x1C\x1A\x14\x1B\x1C\x14\x09\x09\x0E\x09\x0E\x16\x13\x16\x0B\x14\x13\x15\x14\x1E\x1A\x1D\x0A\x1E\

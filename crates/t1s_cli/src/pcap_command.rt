@@ -32,7 +32,9 @@ fn write_pcap<K: Sink>(seg: &mut Segment, pcap: &mut PcapWriter<'_, K>)
 {
     pcap.put_head();
     while goes_on(seg, pcap) {
-        seg.tick(pcap);
+        if seg.skip(u64::MAX) == 0 {
+            seg.tick(pcap);
+        }
     }
 }
 

@@ -44,7 +44,9 @@ fn write_report<K: Sink>(seg: &mut Segment, writer: &mut Writer<'_, K>)
     ensures at_end { (s : Script) → Stands s 0 seg.old → writer.new.stopped ≡ false → Stands s s.end seg.new }
 {
     while goes_on(seg, writer) {
-        seg.tick(writer);
+        if seg.skip(u64::MAX) == 0 {
+            seg.tick(writer);
+        }
     }
     write_summary(seg, writer);
 }

@@ -1,5 +1,5 @@
 // The commands that read a script.
-ghost use Rattle.std.specs.Prelude.{◌≡◌};
+ghost use Rattle.std.specs.Prelude.{◌≡◌, ◌≢◌};
 ghost use Rattle.t1s_script.specs.Script.{IsScript};
 ghost use Rattle.t1s_report.specs.RefusalLines.{refused_line};
 ghost use Rattle.t1s_cli.specs.Answers.{answer_of, has_node, status_of, task_answer, text_of};
@@ -26,9 +26,10 @@ const NO_SUCH_NODE: ScriptRefusal = ScriptRefusal {
     reason: ScriptReason::UnknownNode,
 };
 
-/// Writes the line of a refusal.
+/// Writes the line of a refusal. It takes no memory.
 fn refuse<K: Sink>(refusal: &ScriptRefusal, sink: &mut K) -> Status
-    ensures { TextOutcome K.written K.faults K.finished Status.Refused (refused_line refusal.now) sink.old sink.new result }
+    ensures outcome { TextOutcome K.written K.faults K.finished Status.Refused (refused_line refusal.now) sink.old sink.new result }
+    ensures takes_none { result ≢ Status.Memory }
 {
     let mut line = Line::new();
     refused_line(&mut line, refusal);

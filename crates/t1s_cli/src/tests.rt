@@ -29,10 +29,10 @@ node 2 sent 0 full 0 jam 0 drop 0 good 0 bad 0 clash 0\n";
 pub(crate) const NO_END: &[u8] = b"t1s 1\ncount 3\nnode 0 0 0\nnode 1 1 2\nnode 2 2 5\n";
 
 /// The room of a sink, in octets.
-const ROOM: usize = 65_536;
+pub(crate) const ROOM: usize = 65_536;
 
 /// The words, each one owned.
-fn owned(alloc: Global, words: &[&str]) -> Result<Vec<String>, AllocError> {
+pub(crate) fn owned(alloc: Global, words: &[&str]) -> Result<Vec<String>, AllocError> {
     let mut all = Vec::new(alloc);
     for word in words {
         all.push(String::from_str(alloc, word)?)?;
@@ -115,7 +115,11 @@ fn scripts_are_run_or_refused(rt: HostRuntime) -> Result<(), Fail> {
 }
 
 /// Scripts that are refused, and the lines of the refusals.
-const REFUSED: [(&[u8], &[u8]); 7] = [
+const REFUSED: [(&[u8], &[u8]); 8] = [
+    (
+        b"t1s 1\ncount 3\nnode 0 0 0\nnode 1 1 2\nnode 2 2 5\nnoise 9 9\n",
+        b"refused 6 OutOfRange\n",
+    ),
     (b"t1s 1\nnod 0 0 0\n", b"refused 2 UnknownWord\n"),
     (b"t1s 1\nto 15\n", b"refused 2 OutOfRange\n"),
     (b"t1s 1\nto 032\n", b"refused 2 Number\n"),
@@ -194,7 +198,15 @@ const FIT: [(&[u8], &[u8]); 3] = [
 ];
 
 /// Scripts that aren't fit, and what `check` writes for them.
-const UNFIT: [(&[u8], &[u8]); 6] = [
+const UNFIT: [(&[u8], &[u8]); 8] = [
+    (
+        b"t1s 1\ncount 3\nnode 0 0 0\nnode 1 1 2\nnode 2 2 5\ntonode 2 40\nend 10\n",
+        b"unfit 4 40 32\n",
+    ),
+    (
+        b"t1s 1\ncount 3\nnode 0 0 0\nnode 1 1 2\nnode 2 2 5\nnoise 5 9\nend 10\n",
+        b"unfit 5 5 9\n",
+    ),
     (
         b"t1s 1\ncount 2\nrise 4\nnode 0 0 0\nnode 1 1 14\nend 10\n",
         b"unfit 7 32 32\n",

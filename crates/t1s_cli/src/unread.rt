@@ -21,6 +21,8 @@ pub(crate) fn play_unread(seg: &mut Segment)
     ensures { (s : Script) → Stands s 0 seg.old → Stands s s.end seg.new }
 {
     while !seg.at_end() {
-        seg.tick(&mut Unread);
+        if seg.skip(u64::MAX) == 0 {
+            seg.tick(&mut Unread);
+        }
     }
 }

@@ -8,4 +8,4 @@ returns-in-Ok g c = rw (answer_by_reading c.args.task c.args.bytes.now (Ok c.in-
 pub returns-in-Err-Refused : goal.returns-in-Err-Refused
 returns-in-Err-Refused g c =
     rw (answer_by_reading c.args.task c.args.bytes.now (Err c.in-Err-Refused.refusal) (rw c.in-Err-Refused.field-0-is at c.in-Err-Refused.ensures.answer))
-    (rw c.in-Err-Refused.refusal-is at c.refuse.ensures)
+    (rw c.in-Err-Refused.refusal-is at c.refuse.ensures.outcome)

@@ -21,7 +21,7 @@ install_program() {
     is_current || build
     parts=$prefix/libexec/t1s
     put "$program" "$parts/program" 755
-    # The program that draws comes along where a first picture has built it.
+    # The program that draws comes along where a first picture or dump has built it.
     [ ! -x "$here/crates/t1s_draw/out/t1s_draw" ] || put "$here/crates/t1s_draw/out/t1s_draw" "$parts/drawer" 755
     for part in "$tools"/*.sh "$tools"/*.awk "$tools"/*.txt; do
         put "$part" "$parts/${part##*/}" 644

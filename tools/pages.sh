@@ -128,7 +128,7 @@ $(options_by_command)
         case \$command in
 $(files_by_command)
         install) compopt -o dirnames 2>/dev/null ;;
-        picture) first=2 ;;
+        picture | wave) first=2 ;;
         esac
         [ "\$command" != help ] || words='$(commands | tr '\n' ' ')'
     fi

@@ -60,28 +60,49 @@ reader_goes_away() {
   row "$1 where the reader goes away" 4 0
 }
 
-# Calls of t1s with its standard input closed, or a folder as input: nothing is written.
-for words in run check json 'capture 1' decode; do
-  # shellcheck disable=SC2086
-  ./t1s $words <&- >"$scratch/text" 2>"$scratch/said"
-  ended=$?
-  row "$words where standard input is closed" 3 1
-  [ ! -s "$scratch/text" ] || wrong "$words wrote something where standard input is closed"
-  # shellcheck disable=SC2086
-  ./t1s $words <. >"$scratch/text" 2>"$scratch/said"
-  ended=$?
-  row "$words where standard input is a folder" 3 1
-  [ ! -s "$scratch/text" ] || wrong "$words wrote something where standard input is a folder"
-done
+# Whether the last call wrote nothing.
+wrote_nothing() {
+  [ ! -s "$scratch/text" ] || wrong "$1 wrote something"
+}
 
-# Calls with a standard output that takes nothing.
+# The words $1 with a standard input that is closed, or is a folder, and with a folder as the file that they name.
+can_not_read() {
+  # shellcheck disable=SC2086
+  ./t1s $1 <&- >"$scratch/text" 2>"$scratch/said"
+  ended=$?
+  row "$1 where standard input is closed" 3 1
+  wrote_nothing "$1 where standard input is closed"
+  # shellcheck disable=SC2086
+  ./t1s $1 <. >"$scratch/text" 2>"$scratch/said"
+  ended=$?
+  row "$1 where standard input is a folder" 3 1
+  wrote_nothing "$1 where standard input is a folder"
+  # shellcheck disable=SC2086
+  ./t1s $1 . >"$scratch/text" 2>"$scratch/said"
+  ended=$?
+  row "$1 where the file is a folder" 3 1
+  wrote_nothing "$1 where the file is a folder"
+}
+
 "$program" capture 0 <$script >"$scratch/capture"
-for words in run check json 'capture 1'; do
+for words in run check json 'capture 1' 'pcap 0'; do
+  can_not_read "$words"
   takes_nothing "$words" "$script"
   reader_goes_away "$words" "$script"
 done
+can_not_read decode
 takes_nothing decode "$scratch/capture"
 reader_goes_away decode "$scratch/capture"
+
+# Those that read nothing go well where standard input is closed.
+for words in 'gen 1 1 0' 'load 1 1 0'; do
+  # shellcheck disable=SC2086
+  ./t1s $words <&- >"$scratch/text" 2>"$scratch/said"
+  ended=$?
+  row "$words where standard input is closed" 0 0
+  takes_nothing "$words" /dev/null
+  reader_goes_away "$words" /dev/null
+done
 
 # A device that is full after some blocks: what stands there is the beginning of the report.
 sh tools/ordinary_use.sh >"$scratch/long"
@@ -95,18 +116,25 @@ prefix 'what was written to it' "$scratch/part" "$scratch/report"
 reader_goes_away run "$scratch/long"
 reader_goes_away 'capture 1' "$scratch/long"
 
-# Inputs that are too long or of the wrong kind.
-for words in run check json 'capture 1'; do
+# Inputs that are too long or of the wrong kind: the words $1 on a hundred million zeros write the line $2. The script t1s says what it
+# means, in so many lines as $3 has.
+refuses_zeros() {
   # shellcheck disable=SC2086
-  head -c 100000000 /dev/zero | "$program" $words >"$scratch/text" 2>"$scratch/said"
+  head -c 100000000 /dev/zero | "$program" $1 >"$scratch/text" 2>"$scratch/said"
   ended=$?
-  row "$words on a hundred million zeros" 1 0
-  [ "$(cat "$scratch/text")" = 'refused 0 TooLong' ] || wrong "$words on zeros wrote $(head -c 80 "$scratch/text")"
+  row "the program with $1 on a hundred million zeros" 1 0
+  [ "$(cat "$scratch/text")" = "$2" ] || wrong "$1 on zeros wrote $(head -c 80 "$scratch/text")"
+  # shellcheck disable=SC2086
+  head -c 100000000 /dev/zero | ./t1s $1 >"$scratch/text" 2>"$scratch/said"
+  ended=$?
+  row "$1 on a hundred million zeros" 1 "$3"
+  [ "$(cat "$scratch/text")" = "$2" ] || wrong "t1s $1 on zeros wrote $(head -c 80 "$scratch/text")"
+}
+
+for words in run check json 'capture 1' 'pcap 0'; do
+  refuses_zeros "$words" 'refused 0 TooLong' 2
 done
-head -c 100000000 /dev/zero | "$program" decode >"$scratch/text" 2>"$scratch/said"
-ended=$?
-row 'decode on a hundred million zeros' 1 0
-[ "$(cat "$scratch/text")" = 'refused 0 Magic' ] || wrong "decode on zeros wrote $(head -c 80 "$scratch/text")"
+refuses_zeros decode 'refused 0 Magic' 3
 
 # A capture that is cut at any octet is refused there, after the lines of the items before it.
 octets=$(wc -c <"$scratch/capture")

@@ -4,7 +4,7 @@
 #
 #   sh .ci/checks/status.sh      from the top of the repository
 #
-# Want of memory (5) has no row: no command can be made to meet it here in every environment.
+# Want of memory (5) has a check of its own, memory.sh.
 set -u
 
 scratch=$(mktemp -d) || exit 1

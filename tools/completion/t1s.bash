@@ -2,7 +2,7 @@
 _t1s() {
     local word=${COMP_WORDS[COMP_CWORD]} command=${COMP_WORDS[1]-} words='' first=99
     if [ "$COMP_CWORD" -eq 1 ]; then
-        words='run check json capture pcap decode gen load picture help install --help --version'
+        words='run check json capture pcap decode gen load picture wave help install --help --version'
     else
         case $command in
         run) words='--summary --events' ;;
@@ -14,6 +14,7 @@ _t1s() {
         gen) words='' ;;
         load) words='' ;;
         picture) words='' ;;
+        wave) words='' ;;
         help) words='' ;;
         install) words='' ;;
         esac
@@ -25,9 +26,9 @@ _t1s() {
         pcap) first=3 ;;
         decode) first=2 ;;
         install) compopt -o dirnames 2>/dev/null ;;
-        picture) first=2 ;;
+        picture | wave) first=2 ;;
         esac
-        [ "$command" != help ] || words='run check json capture pcap decode gen load picture help install '
+        [ "$command" != help ] || words='run check json capture pcap decode gen load picture wave help install '
     fi
     COMPREPLY=($(compgen -W "$words" -- "$word"))
     if [ "$COMP_CWORD" -ge "$first" ]; then compopt -o default 2>/dev/null; fi

@@ -3,6 +3,7 @@ use Rattle.std.proofs.Common.{◌≡◌, ℕ, zero, suc, ◌+◌, ◌<◌, ◌�
 use Rattle.std.specs.Prelude.{slice_get}
 use Rattle.std.proofs.lemmas.List.{length-map, get_or_past, take_more, length-take-le}
 use Rattle.t1s_symbols.specs.declared.Heard.{Heard}
+use Rattle.t1s_harness.specs.declared.Tap.{Tap}
 use Rattle.t1s_world.specs.Hearing.{heard}
 use Rattle.t1s_world.proofs.ListLemmas.{slice_get-map, get_or-map, written_more, get_or-unwritten}
 use Rattle.t1s_world.specs.World.{Machine, past, at_depth, after_drive, row_of, after_hear, hear_outcomes, after_tick, driven_at, heard_at, hear_outcomes_at}
@@ -68,65 +69,65 @@ module _ {Node DriveOutcome HearOutcome : Type 0} (m : Machine Node DriveOutcome
         let next : s + 1 + i ≡ s + suc i = omega arith in
         rw (← next) (slice_get-hear_outcomes (s + 1) ns i n e)
 
-module _ {Node DriveOutcome HearOutcome : Type 0} (m : Machine Node DriveOutcome HearOutcome) (places : List ℕ) (first : List Node) where
-  pub past-zero : past m places first 0 ≡ record { nodes = first; rows = [] }
+module _ {Node DriveOutcome HearOutcome : Type 0} (m : Machine Node DriveOutcome HearOutcome) (taps : List Tap) (first : List Node) where
+  pub past-zero : past m taps first 0 ≡ record { nodes = first; rows = [] }
   unfolding past
   past-zero = refl
 
-  pub past-suc : (t : ℕ) → past m places first (suc t) ≡ after_tick m places t (past m places first t)
+  pub past-suc : (t : ℕ) → past m taps first (suc t) ≡ after_tick m taps t (past m taps first t)
   unfolding past
   past-suc t = refl
 
   -- what is in the rows: at depth d, what was driven d ticks before the newest
-  pub at_depth-within : (t d u i : ℕ) → u + suc d ≡ t → at_depth (past m places first t).rows i d ≡ driven_at m places first u i
+  pub at_depth-within : (t d u i : ℕ) → u + suc d ≡ t → at_depth (past m taps first t).rows i d ≡ driven_at m taps first u i
   at_depth-within zero d u i e = absurd (omega arith)
   at_depth-within (suc t) zero u i e =
       let same : u ≡ t = omega arith in
       rw (past-suc t, same) refl
   at_depth-within (suc t) (suc d) u i e = rw (past-suc t) (at_depth-within t d u i (omega arith))
 
-  pub at_depth-before : (t d i : ℕ) → t ≤ d → at_depth (past m places first t).rows i d ≡ None
+  pub at_depth-before : (t d i : ℕ) → t ≤ d → at_depth (past m taps first t).rows i d ≡ None
   at_depth-before zero d i e = rw past-zero refl
   at_depth-before (suc t) zero i e = absurd (omega arith)
   at_depth-before (suc t) (suc d) i e = rw (past-suc t) (at_depth-before t d i (omega arith))
 
-  nodes-suc : (t : ℕ) → (past m places first (suc t)).nodes ≡ after_hear m t (heard (at_depth (past m places first (suc t)).rows) places) 0 (after_drive m t (past m places first t).nodes)
+  nodes-suc : (t : ℕ) → (past m taps first (suc t)).nodes ≡ after_hear m t (heard (at_depth (past m taps first (suc t)).rows) taps) 0 (after_drive m t (past m taps first t).nodes)
   unfolding past
   nodes-suc t = refl
 
   -- a node from tick to tick
-  pub kept_next : (t i : ℕ) (n : Node) → slice_get (past m places first t).nodes i ≡ Some n → slice_get (past m places first (suc t)).nodes i ≡ Some (m.hear t (heard_at m places first t i) (m.drive t n).0).0
+  pub kept_next : (t i : ℕ) (n : Node) → slice_get (past m taps first t).nodes i ≡ Some n → slice_get (past m taps first (suc t)).nodes i ≡ Some (m.hear t (heard_at m taps first t i) (m.drive t n).0).0
   kept_next t i n e =
-      let h : ℕ → Heard = heard (at_depth (past m places first (suc t)).rows) places in
-      let nodes : List Node = after_drive m t (past m places first t).nodes in
-      let before = slice_get-map (λ n. (m.drive t n).0) (past m places first t).nodes i n e in
+      let h : ℕ → Heard = heard (at_depth (past m taps first (suc t)).rows) taps in
+      let nodes : List Node = after_drive m t (past m taps first t).nodes in
+      let before = slice_get-map (λ n. (m.drive t n).0) (past m taps first t).nodes i n e in
       let at : slice_get (after_hear m t h 0 nodes) i ≡ Some (m.hear t (h (0 + i)) (m.drive t n).0).0 = slice_get-after_hear m t h 0 nodes i (m.drive t n).0 before in
       rw (nodes-suc t) (rw zero-add at at)
 
   -- what comes of its hear phase
-  pub hear_outcome_is : (t i : ℕ) (n : Node) → slice_get (past m places first t).nodes i ≡ Some n → slice_get (hear_outcomes_at m places first t) i ≡ Some (m.hear t (heard_at m places first t i) (m.drive t n).0).1
+  pub hear_outcome_is : (t i : ℕ) (n : Node) → slice_get (past m taps first t).nodes i ≡ Some n → slice_get (hear_outcomes_at m taps first t) i ≡ Some (m.hear t (heard_at m taps first t i) (m.drive t n).0).1
   hear_outcome_is t i n e =
-      let nodes : List Node = after_drive m t (past m places first t).nodes in
-      let before = slice_get-map (λ n. (m.drive t n).0) (past m places first t).nodes i n e in
-      let at : slice_get (hear_outcomes m t (heard_at m places first t) 0 nodes) i ≡ Some (m.hear t (heard_at m places first t (0 + i)) (m.drive t n).0).1 = slice_get-hear_outcomes m t (heard_at m places first t) 0 nodes i (m.drive t n).0 before in
+      let nodes : List Node = after_drive m t (past m taps first t).nodes in
+      let before = slice_get-map (λ n. (m.drive t n).0) (past m taps first t).nodes i n e in
+      let at : slice_get (hear_outcomes m t (heard_at m taps first t) 0 nodes) i ≡ Some (m.hear t (heard_at m taps first t (0 + i)) (m.drive t n).0).1 = slice_get-hear_outcomes m t (heard_at m taps first t) 0 nodes i (m.drive t n).0 before in
       rw zero-add at at
 
   -- what a node drives
-  pub driven_is : (t i : ℕ) (n : Node) → slice_get (past m places first t).nodes i ≡ Some n → driven_at m places first t i ≡ m.quarter (m.drive t n).1
-  driven_is t i n e = get_or-map (λ n. m.quarter (m.drive t n).1) (past m places first t).nodes i n None e
+  pub driven_is : (t i : ℕ) (n : Node) → slice_get (past m taps first t).nodes i ≡ Some n → driven_at m taps first t i ≡ m.quarter (m.drive t n).1
+  driven_is t i n e = get_or-map (λ n. m.quarter (m.drive t n).1) (past m taps first t).nodes i n None e
 
-  pub length-nodes : (t : ℕ) → length (past m places first t).nodes ≡ length first
+  pub length-nodes : (t : ℕ) → length (past m taps first t).nodes ≡ length first
   length-nodes zero = rw past-zero refl
   length-nodes (suc t) =
-      let nodes : List Node = after_drive m t (past m places first t).nodes in
+      let nodes : List Node = after_drive m t (past m taps first t).nodes in
       rw (nodes-suc t)
-      (length-after_hear m t (heard (at_depth (past m places first (suc t)).rows) places) 0 nodes
-      ∙ (length-map (past m places first t).nodes (λ n. (m.drive t n).0) ∙ length-nodes t))
+      (length-after_hear m t (heard (at_depth (past m taps first (suc t)).rows) taps) 0 nodes
+      ∙ (length-map (past m taps first t).nodes (λ n. (m.drive t n).0) ∙ length-nodes t))
 
   -- there is no other node
-  pub driven_past : (t i : ℕ) → length first ≤ i → driven_at m places first t i ≡ None
+  pub driven_past : (t i : ℕ) → length first ≤ i → driven_at m taps first t i ≡ None
   driven_past t i h =
-      let nodes : List Node = (past m places first t).nodes in
+      let nodes : List Node = (past m taps first t).nodes in
       get_or_past (row_of m t nodes) i None (omega (arith, length-map nodes (λ n. m.quarter (m.drive t n).1), length-nodes t))
 
   -- what no phase of a tick changes is as it was at first, node by node
@@ -139,10 +140,10 @@ module _ {Node DriveOutcome HearOutcome : Type 0} (m : Machine Node DriveOutcome
     after_hear_keeps t h s [] = refl
     after_hear_keeps t h s (n ∷ ns) = let e = hearing t (h s) n in let rest = after_hear_keeps t h (s + 1) ns in rw (e, rest) refl
 
-    pub past_keeps : (t : ℕ) → map f (past m places first t).nodes ≡ map f first
+    pub past_keeps : (t : ℕ) → map f (past m taps first t).nodes ≡ map f first
     past_keeps zero = rw past-zero refl
     past_keeps (suc t) =
-        let nodes : List Node = (past m places first t).nodes in
+        let nodes : List Node = (past m taps first t).nodes in
         rw (nodes-suc t)
-        (after_hear_keeps t (heard (at_depth (past m places first (suc t)).rows) places) 0 (after_drive m t nodes)
+        (after_hear_keeps t (heard (at_depth (past m taps first (suc t)).rows) taps) 0 (after_drive m t nodes)
         ∙ (after_drive_keeps t nodes ∙ past_keeps t))

@@ -1,24 +1,11 @@
 -- What a node hears on the cable: the quarter of each other node, as late as that node is far away.
-use Rattle.std.specs.Prelude.{ℕ, ◌+◌, max, List, [], ◌∷◌, ◌++◌, Option, None, Some, get_or, ◌==◌, if◌then◌else◌}
-use Rattle.std.specs.Int.{abs_diff}
+use Rattle.std.specs.Prelude.{ℕ, ◌+◌, List, [], ◌∷◌, ◌++◌, Option, None, Some, ◌==◌, if◌then◌else◌}
 use Rattle.std.specs.Option.{option_to_list}
+use Rattle.t1s_harness.specs.declared.Tap.{Tap}
+use Rattle.t1s_harness.specs.Distances.{between, tap_at}
 use Rattle.t1s_symbols.specs.declared.Heard.{Heard}
 use Rattle.t1s_symbols.specs.declared.Heard.TheVariants.{Nothing, One, Many}
 use Rattle.t1s_symbols.specs.declared.Quarter.{Quarter}
-
--- the distance of two places, in whole bit times
-abbrev pub distance : ℕ → ℕ → ℕ
-distance x y = abs_diff x y
-
--- the greatest distance of place x from one of these places; 0 where there is none
-abbrev pub farthest : ℕ → List ℕ → ℕ
-farthest x [] = 0
-farthest x (y ∷ ys) = max (distance x y) (farthest x ys)
-
--- the greatest distance of two of these places; 0 where there are fewer than two
-abbrev pub span : List ℕ → ℕ
-span [] = 0
-span (x ∷ xs) = max (farthest x xs) (span xs)
 
 -- what is heard where these quarters arrive in one tick: none is Nothing, one is One of it, more are Many
 abbrev pub heard_of : List Quarter → Heard
@@ -33,16 +20,16 @@ heard_with Nothing (Some q) = One q
 heard_with (One p) (Some q) = Many
 heard_with Many (Some q) = Many
 
--- the quarter by which node i at place y reaches node j at place x, if there is one. A node doesn't
--- hear itself. `at i d` is what node i drove d ticks ago
-abbrev pub arriving : (ℕ → ℕ → Option Quarter) → ℕ → ℕ → ℕ → ℕ → Option Quarter
-arriving at j x i y = if i == j then None else at i (distance x y)
+-- the quarter by which node i, which hangs at b, reaches node j, which hangs at a, if there is one. A node
+-- doesn't hear itself. `at i d` is what node i drove d ticks ago
+abbrev pub arriving : (ℕ → ℕ → Option Quarter) → ℕ → Tap → ℕ → Tap → Option Quarter
+arriving at j a i b = if i == j then None else at i (between a b)
 
--- the quarters that reach node j at place x from the nodes i, i + 1, .. at these places
-abbrev pub arriving_from : (ℕ → ℕ → Option Quarter) → ℕ → ℕ → ℕ → List ℕ → List Quarter
-arriving_from at j x i [] = []
-arriving_from at j x i (y ∷ ys) = option_to_list (arriving at j x i y) ++ arriving_from at j x (i + 1) ys
+-- the quarters that reach node j, which hangs at a, from the nodes i, i + 1, .. that hang at these taps
+abbrev pub arriving_from : (ℕ → ℕ → Option Quarter) → ℕ → Tap → ℕ → List Tap → List Quarter
+arriving_from at j a i [] = []
+arriving_from at j a i (b ∷ rest) = option_to_list (arriving at j a i b) ++ arriving_from at j a (i + 1) rest
 
--- what node j of a cable with these places hears
-unfoldable pub heard : (ℕ → ℕ → Option Quarter) → List ℕ → ℕ → Heard
-heard at places j = heard_of (arriving_from at j (get_or places j 0) 0 places)
+-- what node j of a cable with these taps hears
+unfoldable pub heard : (ℕ → ℕ → Option Quarter) → List Tap → ℕ → Heard
+heard at taps j = heard_of (arriving_from at j (tap_at taps j) 0 taps)

@@ -2,6 +2,7 @@
 use Rattle.std.specs.Prelude.{ℕ, zero, suc, ◌+◌, List, [], ◌∷◌, Option, None, map, get_or}
 use Rattle.t1s_symbols.specs.declared.Heard.{Heard}
 use Rattle.t1s_symbols.specs.declared.Quarter.{Quarter}
+use Rattle.t1s_harness.specs.declared.Tap.{Tap}
 use Rattle.t1s_world.specs.Hearing.{heard}
 
 -- a machine of a node. Node is what a node keeps from tick to tick, DriveOutcome what comes of its drive
@@ -44,27 +45,27 @@ module _ {Node DriveOutcome HearOutcome : Type 0} where
   hear_outcomes m t h j (n ∷ ns) = (m.hear t (h j) n).1 ∷ hear_outcomes m t h (j + 1) ns
 
   -- one tick: the drive phase, and then the hear phase
-  abbrev pub after_tick : Machine Node DriveOutcome HearOutcome → List ℕ → ℕ → Past Node → Past Node
-  after_tick m places t p =
+  abbrev pub after_tick : Machine Node DriveOutcome HearOutcome → List Tap → ℕ → Past Node → Past Node
+  after_tick m taps t p =
       let rows : List (List (Option Quarter)) = row_of m t p.nodes ∷ p.rows in
       record {
-        nodes = after_hear m t (heard (at_depth rows) places) 0 (after_drive m t p.nodes);
+        nodes = after_hear m t (heard (at_depth rows) taps) 0 (after_drive m t p.nodes);
         rows = rows;
       }
 
   -- the past when the ticks below t have been played, from what the nodes keep at first
-  unfoldable pub past : Machine Node DriveOutcome HearOutcome → List ℕ → List Node → ℕ → Past Node
-  past m places first zero = record { nodes = first; rows = [] }
-  past m places first (suc t) = after_tick m places t (past m places first t)
+  unfoldable pub past : Machine Node DriveOutcome HearOutcome → List Tap → List Node → ℕ → Past Node
+  past m taps first zero = record { nodes = first; rows = [] }
+  past m taps first (suc t) = after_tick m taps t (past m taps first t)
 
   -- what node i drives in tick t
-  abbrev pub driven_at : Machine Node DriveOutcome HearOutcome → List ℕ → List Node → ℕ → ℕ → Option Quarter
-  driven_at m places first t i = get_or (row_of m t (past m places first t).nodes) i None
+  abbrev pub driven_at : Machine Node DriveOutcome HearOutcome → List Tap → List Node → ℕ → ℕ → Option Quarter
+  driven_at m taps first t i = get_or (row_of m t (past m taps first t).nodes) i None
 
   -- what node j hears in tick t
-  abbrev pub heard_at : Machine Node DriveOutcome HearOutcome → List ℕ → List Node → ℕ → ℕ → Heard
-  heard_at m places first t j = heard (at_depth (past m places first (suc t)).rows) places j
+  abbrev pub heard_at : Machine Node DriveOutcome HearOutcome → List Tap → List Node → ℕ → ℕ → Heard
+  heard_at m taps first t j = heard (at_depth (past m taps first (suc t)).rows) taps j
 
   -- what comes of the hear phase of tick t, node by node
-  abbrev pub hear_outcomes_at : Machine Node DriveOutcome HearOutcome → List ℕ → List Node → ℕ → List HearOutcome
-  hear_outcomes_at m places first t = hear_outcomes m t (heard_at m places first t) 0 (after_drive m t (past m places first t).nodes)
+  abbrev pub hear_outcomes_at : Machine Node DriveOutcome HearOutcome → List Tap → List Node → ℕ → List HearOutcome
+  hear_outcomes_at m taps first t = hear_outcomes m t (heard_at m taps first t) 0 (after_drive m t (past m taps first t).nodes)

@@ -1,3 +1,5 @@
+pub mod ChangeLists
 pub mod Histories
 pub mod Silence
 pub mod CalmTicks
+pub mod Taps

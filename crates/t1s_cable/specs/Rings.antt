@@ -1,26 +1,20 @@
--- The bounded histories: each ring keeps the newest of what its node drove.
-use Rattle.std.specs.Prelude.{ℕ, zero, suc, List, [], ◌∷◌, take, get_or, Option, None, IfSome}
+-- What is kept of the puts on a cable: the row of the current tick, and each node's changes before it.
+use Rattle.std.specs.Prelude.{◌≡◌, ℕ, zero, suc, ◌+◌, ◌-◌, ◌<◌, List, length, get_or, Option, None, IfSome}
 use Rattle.t1s_symbols.specs.Ranges.{IsQuarter}
-use Rattle.circular_buffer.specs.Buffer.{Buffer, buffer}
+use Rattle.circular_buffer.specs.Buffer.{Buffer}
 use Rattle.t1s_symbols.specs.declared.Quarter.{Quarter}
+use Rattle.t1s_cable.specs.declared.changes.Change.{Change}
+use Rattle.t1s_cable.specs.Changes.{IsRing, drove, ring_at}
 
--- a ring that keeps what is driven in one more tick
-abbrev pub pushed : Buffer (Option Quarter) → Option Quarter → Buffer (Option Quarter)
-pushed b q = buffer (take b.capacity (q ∷ b.items)) b.capacity
+-- what node i drove d ticks ago, in the tick `clock`: the row of the current tick stands beside the rings
+abbrev pub put_at : List (Option Quarter) → List (Buffer Change) → ℕ → ℕ → ℕ → Option Quarter
+put_at row rings clock i zero = get_or row i None
+put_at row rings clock i (suc d) = drove (ring_at rings i).items (clock - suc d)
 
--- what a node drove d ticks before the newest that is kept, as far as it is kept
-abbrev pub kept_at : Buffer (Option Quarter) → ℕ → Option Quarter
-kept_at b d = get_or b.items d None
+-- whatever is put is a quarter in range
+abbrev pub AreQuarters : List (Option Quarter) → Type 0
+AreQuarters row = (i : ℕ) → IfSome (get_or row i None) IsQuarter
 
--- the same, by the position of the node
-abbrev pub ring_at : List (Buffer (Option Quarter)) → ℕ → ℕ → Option Quarter
-ring_at rings i d = kept_at (get_or rings i (buffer [] 0)) d
-
--- what node i drove d ticks ago: the row of the current tick stands beside the rings
-abbrev pub put_at : List (Option Quarter) → List (Buffer (Option Quarter)) → ℕ → ℕ → Option Quarter
-put_at row rings i zero = get_or row i None
-put_at row rings i (suc d) = ring_at rings i d
-
--- whatever was put is a quarter in range
-abbrev pub AreQuarters : (ℕ → ℕ → Option Quarter) → Type 0
-AreQuarters at = (i d : ℕ) → IfSome (at i d) IsQuarter
+-- the rings of a cable of this reach
+abbrev pub AreRings : ℕ → ℕ → List (Buffer Change) → Type 0
+AreRings reach clock rings = (i : ℕ) → i < length rings → ((ring_at rings i).capacity ≡ reach + 1) × IsRing clock (ring_at rings i)

@@ -3,7 +3,8 @@
 //! The layer above uses that a `Cable` stands for the whole history of what was put on it (`Stands` in
 //! `specs/Stands.antt`), though it keeps no more than the longest cable needs: `put` and `turn` extend that
 //! history, and `heard` is what the world hears over all of it (`specs/Hearing.antt` of `t1s_world`). What
-//! contracts see of a cable stands in `specs/State.antt`, and what it keeps in `specs/Rings.antt`. It also counts
+//! contracts see of a cable stands in `specs/State.antt`. Of each node it keeps a ring of changes: the ticks in which
+//! something else began than what went on, silence or a symbol (`specs/Changes.antt`). It also counts
 //! in how many ticks a quarter may still be on its way (`specs/Silence.antt`), so that silence costs little. By that
 //! count `calm_for` and `pass` answer for any number of silent ticks at once (`specs/Calm.antt`). Only `Cable::new` takes
 //! memory.
@@ -11,6 +12,7 @@
 
 mod cable;
 mod calm;
+mod changes;
 mod kept;
 
 pub use cable::Cable;

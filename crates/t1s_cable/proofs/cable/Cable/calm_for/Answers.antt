@@ -26,5 +26,5 @@ returns-else-calm-limit-clause-calm c rows stands n high =
     (calm_of _ c.self.invariant.rings_len rows before n
     (elim (cases_lt n inside.busy) [
       | inl few ↦ all n (omega (arith, few, high, c.if-calm-limit.false, c.min-limit.ensures, c.from.ensures))
-      | inr past ↦ all_past inside.places.items (put_at inside.row.items inside.rings.items) inside.busy c.self.invariant.quiet n (omega (arith, past))
+      | inr past ↦ all_past inside.taps.items (put_at inside.row.items inside.rings.items inside.clock) inside.busy c.self.invariant.quiet n (omega (arith, past))
     ]))

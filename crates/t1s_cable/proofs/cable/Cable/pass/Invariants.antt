@@ -7,7 +7,7 @@ use Rattle.t1s_cable.proofs.cable.Cable.pass.Given as goal
 abbrev pub invariant-loop-passed : goal.invariant-loop-passed
 invariant-loop-passed l =
     record {
-      places : l.self.places ≡ l.initial.self.places;
-      row : l.self.row ≡ cond (l._passed == 0) l.initial.self.row (no_puts l.initial.self.places);
-      stands : (rows : List (List (Option Quarter))) → Stands rows l.initial.self → Stands (after_silence l.initial.self.places l._passed rows) l.self;
+      taps : l.self.taps ≡ l.initial.self.taps;
+      row : l.self.row ≡ cond (l._passed == 0) l.initial.self.row (no_puts l.initial.self.taps);
+      stands : (rows : List (List (Option Quarter))) → Stands rows l.initial.self → Stands (after_silence l.initial.self.taps l._passed rows) l.self;
     }

@@ -1,8 +1,8 @@
 use Rattle.std.proofs.Common.{◌<◌, arith, length, rules, set}
-use Rattle.t1s_world.specs.Hearing.{span}
+use Rattle.t1s_harness.specs.Distances.{span}
 use Rattle.t1s_cable.specs.Rings.{put_at}
 use Rattle.t1s_cable.proofs.Histories.{quarters-put}
-use Rattle.t1s_cable.proofs.Silence.{full-put, quiet-busy, quiet_nodes-put}
+use Rattle.t1s_cable.proofs.Silence.{quiet-busy, quiet_nodes-put}
 use Rattle.t1s_cable.proofs.cable.Cable.put.Goals as goal
 
 pub invariant_of-self : goal.invariant_of-self
@@ -13,12 +13,14 @@ invariant_of-self c =
     record {
       row_len = search rules;
       rings_len = c.self.invariant.rings_len;
-      quarters = quarters-put old.row.items old.rings.items c.from-node.result c.args.q c.requires.quarter c.self.invariant.quarters;
       carried_len = search rules;
       reach = c.self.invariant.reach;
-      quiet_nodes = rw (c.from-ticks.ensures, c.self.invariant.reach)
-          (quiet_nodes-put (span old.places.items) old.row.items old.rings.items c.from-node.result old.carried.items c.args.q there c.self.invariant.quiet_nodes);
-      quiet = rw (c.from-ticks.ensures, c.self.invariant.reach)
-          (quiet-busy (span old.places.items) (put_at (set old.row.items c.from-node.result c.args.q) old.rings.items));
-      full = rw (c.from-ticks.ensures, c.self.invariant.reach) (full-put (span old.places.items) old.busy old.rings.items c.self.invariant.full);
+      short = c.self.invariant.short;
+      clock = c.self.invariant.clock;
+      quarters = quarters-put old.row.items c.from-node.result c.args.q c.requires.quarter c.self.invariant.quarters;
+      rings = c.self.invariant.rings;
+      quiet_nodes = rw c.self.invariant.reach
+          (quiet_nodes-put (span old.taps.items) old.clock old.row.items old.rings.items c.from-node.result old.carried.items c.args.q there c.self.invariant.quiet_nodes);
+      quiet = rw c.self.invariant.reach
+          (quiet-busy (span old.taps.items) (put_at (set old.row.items c.from-node.result c.args.q) old.rings.items old.clock));
     }

@@ -11,11 +11,11 @@ use Rattle.std.proofs.lemmas.List.Folds.{list_any-append}
 use Rattle.t1s_base.specs.Limits.{most_nodes, last_node}
 use Rattle.t1s_script.specs.ParsedLine.{ParsedLine}
 use Rattle.t1s_script.specs.Limits.{most_acts, most_draws}
-use Rattle.t1s_script.specs.Values.{number_for, seed_from, node_for, start_for, timer_for, draw_for, tick_from, latest_tick, end_from, is_node, some_gives}
+use Rattle.t1s_script.specs.Values.{number_for, seed_from, node_for, stub_for, start_for, timer_for, draw_for, tick_from, latest_tick, end_from, is_node, some_gives}
 use Rattle.t1s_script.specs.Script.{offers_in}
 use Rattle.t1s_script.specs.Rules.{reason_of}
 use Rattle.t1s_script.specs.Reading.{act_at}
-use Rattle.t1s_script.specs.Draft.{given, with_given, draft_start, slot_at, with_slot, set_after, seed_after, new_slot, node_after, once_in_slot, late_after, timer_after, draw_in_slot, with_act, timed_after, offer_after, end_after, line_after, unskipped_after, draft_after}
+use Rattle.t1s_script.specs.Draft.{given, with_given, draft_start, slot_at, with_slot, set_after, seed_after, new_slot, node_after, once_in_slot, stub_after, late_after, timer_after, draw_in_slot, with_act, timed_after, offer_after, end_after, line_after, unskipped_after, draft_after}
 use Rattle.t1s_script.specs.declared.draft.Draft.{Draft}
 use Rattle.t1s_script.specs.declared.draft.Settings.{Settings}
 use Rattle.t1s_script.specs.declared.draft.Slot.{Slot}
@@ -26,7 +26,7 @@ use Rattle.t1s_script.specs.declared.script.Deed.TheVariants.{Offer as OfferDeed
 use Rattle.t1s_script.specs.declared.words.Setting.{Setting}
 use Rattle.t1s_script.specs.declared.words.Setting.TheVariants.{Count, To, Rise, Fall, Burst, Room}
 use Rattle.t1s_script.specs.declared.words.ScriptLine.{ScriptLine}
-use Rattle.t1s_script.specs.declared.words.ScriptLine.TheVariants.{Skipped, Set, Seed, Node, Late, ToNode, Draw, Offer, Noise, End}
+use Rattle.t1s_script.specs.declared.words.ScriptLine.TheVariants.{Skipped, Set, Seed, Node, Stub, Late, ToNode, Draw, Offer, Noise, End}
 use Rattle.t1s_script.proofs.Ranges.{InRange}
 use Rattle.t1s_script.proofs.LineValues.{gives, kept, gained, same_values, one_more}
 use Rattle.t1s_script.proofs.LineActs.{HoldsActs, IsUntimed, HasAct, same_acts, more_acts}
@@ -47,6 +47,7 @@ draws_in None = []
 -- what is kept of the node of that number is all that these lines give of it
 pub record HoldsSlot (lines : List ParsedLine) (number : ℕ) (slot : Option Slot) : Type 0 where
   pub place : option_to_list (option_map id_and_place slot) ≡ filter_map (node_for number) lines
+  pub stub : option_to_list (once_in (λ s. s.stub) slot) ≡ filter_map (stub_for number) lines
   pub timer : option_to_list (once_in (λ s. s.to) slot) ≡ filter_map (timer_for number) lines
   pub start : option_to_list (once_in (λ s. s.start) slot) ≡ filter_map (start_for number) lines
   pub draws : draws_in slot ≡ filter_map (draw_for number) lines
@@ -70,7 +71,7 @@ pub start_holds : Holds [] draft_start
 start_holds = record {
   settings = none_given;
   seed = refl;
-  slots = λ number. subst (HoldsSlot [] number) (sym (none_free most_nodes number)) (record { place = refl; timer = refl; start = refl; draws = refl });
+  slots = λ number. subst (HoldsSlot [] number) (sym (none_free most_nodes number)) (record { place = refl; stub = refl; timer = refl; start = refl; draws = refl });
   acts = record { acts = refl; latest = refl; counted = refl; numbered = refl };
   size = refl;
   some_node = refl;
@@ -125,6 +126,7 @@ setting_kept lines s v w n free e = kept (number_for w) lines (Ok (Set v n)) (gi
 -- a line that gives nothing of the node of that number
 record SparesSlot (number : ℕ) (line : ParsedLine) : Type 0 where
   pub place : node_for number line ≡ None
+  pub stub : stub_for number line ≡ None
   pub timer : timer_for number line ≡ None
   pub start : start_for number line ≡ None
   pub draws : draw_for number line ≡ None
@@ -154,6 +156,7 @@ module _ (lines : List ParsedLine) (d : Draft) (h : Holds lines d) where
   same_slot : (line : ParsedLine) (k : ℕ) → SparesSlot k line → HoldsSlot (lines ++ line ∷ []) k (slot_at d k)
   same_slot line k spared = record {
     place = kept (node_for k) lines line (option_map id_and_place (slot_at d k)) (h.slots k).place spared.place;
+    stub = kept (stub_for k) lines line (once_in (λ s. s.stub) (slot_at d k)) (h.slots k).stub spared.stub;
     timer = kept (timer_for k) lines line (once_in (λ s. s.to) (slot_at d k)) (h.slots k).timer spared.timer;
     start = kept (start_for k) lines line (once_in (λ s. s.start) (slot_at d k)) (h.slots k).start spared.start;
     draws = (h.slots k).draws ∙ same_values (draw_for k) lines line spared.draws;
@@ -169,7 +172,7 @@ module _ (lines : List ParsedLine) (d : Draft) (h : Holds lines d) where
   skipped_step = record {
     settings = same_settings (Ok Skipped) (λ w. refl);
     seed = same_seed (Ok Skipped) refl;
-    slots = λ k. same_slot (Ok Skipped) k (record { place = refl; timer = refl; start = refl; draws = refl });
+    slots = λ k. same_slot (Ok Skipped) k (record { place = refl; stub = refl; timer = refl; start = refl; draws = refl });
     acts = untimed (Ok Skipped) (record { act = λ k. refl; offer = refl; tick = refl });
     size = h.size;
     some_node = same_nodes (Ok Skipped) refl;
@@ -191,7 +194,7 @@ module _ (lines : List ParsedLine) (d : Draft) (h : Holds lines d) where
           record {
             settings = λ v. setting_kept lines d.settings w v n here (h.settings v);
             seed = same_seed (Ok (Set w n)) refl;
-            slots = λ k. same_slot (Ok (Set w n)) k (record { place = refl; timer = refl; start = refl; draws = refl });
+            slots = λ k. same_slot (Ok (Set w n)) k (record { place = refl; stub = refl; timer = refl; start = refl; draws = refl });
             acts = untimed (Ok (Set w n)) (record { act = λ k. refl; offer = refl; tick = refl });
             size = h.size;
             some_node = same_nodes (Ok (Set w n)) refl;
@@ -209,7 +212,7 @@ module _ (lines : List ParsedLine) (d : Draft) (h : Holds lines d) where
           record {
             settings = same_settings (Ok (Seed n)) (λ w. refl);
             seed = gained seed_from lines (Ok (Seed n)) d.seed n h.seed here refl;
-            slots = λ k. same_slot (Ok (Seed n)) k (record { place = refl; timer = refl; start = refl; draws = refl });
+            slots = λ k. same_slot (Ok (Seed n)) k (record { place = refl; stub = refl; timer = refl; start = refl; draws = refl });
             acts = untimed (Ok (Seed n)) (record { act = λ k. refl; offer = refl; tick = refl });
             size = h.size;
             some_node = same_nodes (Ok (Seed n)) refl;
@@ -227,7 +230,7 @@ module _ (lines : List ParsedLine) (d : Draft) (h : Holds lines d) where
           record {
             settings = same_settings (Ok (End last)) (λ w. refl);
             seed = same_seed (Ok (End last)) refl;
-            slots = λ k. same_slot (Ok (End last)) k (record { place = refl; timer = refl; start = refl; draws = refl });
+            slots = λ k. same_slot (Ok (End last)) k (record { place = refl; stub = refl; timer = refl; start = refl; draws = refl });
             acts = untimed (Ok (End last)) (record { act = λ k. refl; offer = refl; tick = refl });
             size = h.size;
             some_node = same_nodes (Ok (End last)) refl;
@@ -291,6 +294,7 @@ module _ (lines : List ParsedLine) (d : Draft) (h : Holds lines d) where
         new_held : slot_at d number ≡ None → HoldsSlot (lines ++ Ok (Node number id place) ∷ []) number (Some (new_slot id place))
         new_held free = (let held : HoldsSlot lines number None = subst (HoldsSlot lines number) free (h.slots number) in record {
           place = gained (node_for number) lines (Ok (Node number id place)) None (id, place) held.place refl (ap (λ b. cond b (Some (id, place)) None) (eqb_same number));
+          stub = kept (stub_for number) lines (Ok (Node number id place)) None held.stub refl;
           timer = kept (timer_for number) lines (Ok (Node number id place)) None held.timer refl;
           start = kept (start_for number) lines (Ok (Node number id place)) None held.start refl;
           draws = held.draws ∙ same_values (draw_for number) lines (Ok (Node number id place)) refl;
@@ -301,7 +305,7 @@ module _ (lines : List ParsedLine) (d : Draft) (h : Holds lines d) where
         go None here = (
           rw (no_end, unknown number here) refl,
           put_holds (Ok (Node number id place)) number (new_slot id place) few (new_held here)
-              (λ k test. record { place = ap (λ b. cond b (Some (id, place)) None) test; timer = refl; start = refl; draws = refl })
+              (λ k test. record { place = ap (λ b. cond b (Some (id, place)) None) test; stub = refl; timer = refl; start = refl; draws = refl })
               (record { settings = λ w. refl; seed = refl; untimed = record { act = λ k. refl; offer = refl; tick = refl }; end = refl })
               (node_or (Ok (Node number id place)) ∙ or-true (list_any is_node lines)),
         )
@@ -334,17 +338,35 @@ module _ (lines : List ParsedLine) (d : Draft) (h : Holds lines d) where
           go None here = reason ∙ reason_at no_end (stands None here) (unknown number here)
           go (Some slot) here = in_slot slot here (stood slot) refl
 
+    stub_step : (number stub : ℕ) → number ≤ last_node → IsStep lines (Ok (Stub number stub)) (stub_after d number stub)
+    stub_step number stub few =
+        once_step (Ok (Stub number stub)) number (stub_for number) (λ s. s.stub) (λ s. record s { stub = Some stub }) refl (h.slots number).stub
+        (λ slot here free. put_holds (Ok (Stub number stub)) number (record slot { stub = Some stub }) few (held slot here free)
+        (λ k other. record { place = refl; stub = ap (λ b. cond b (Some stub) None) other; timer = refl; start = refl; draws = refl })
+        (record { settings = λ w. refl; seed = refl; untimed = record { act = λ k. refl; offer = refl; tick = refl }; end = refl })
+        (still_some number slot (Ok (Stub number stub)) here refl))
+      where
+        held : (slot : Slot) → slot_at d number ≡ Some slot → slot.stub ≡ None → HoldsSlot (lines ++ (Ok (Stub number stub)) ∷ []) number (Some (record slot { stub = Some stub }))
+        held slot here free = (let old : HoldsSlot lines number (Some slot) = subst (HoldsSlot lines number) here (h.slots number) in record {
+          place = kept (node_for number) lines (Ok (Stub number stub)) (Some (slot.id, slot.place)) old.place refl;
+          stub = gained (stub_for number) lines (Ok (Stub number stub)) slot.stub stub old.stub free (ap (λ b. cond b (Some stub) None) (eqb_same number));
+          timer = kept (timer_for number) lines (Ok (Stub number stub)) slot.to old.timer refl;
+          start = kept (start_for number) lines (Ok (Stub number stub)) slot.start old.start refl;
+          draws = old.draws ∙ same_values (draw_for number) lines (Ok (Stub number stub)) refl;
+        })
+
     late_step : (number start : ℕ) → number ≤ last_node → IsStep lines (Ok (Late number start)) (late_after d number start)
     late_step number start few =
         once_step (Ok (Late number start)) number (start_for number) (λ s. s.start) (λ s. record s { start = Some start }) refl (h.slots number).start
         (λ slot here free. put_holds (Ok (Late number start)) number (record slot { start = Some start }) few (held slot here free)
-        (λ k other. record { place = refl; timer = refl; start = ap (λ b. cond b (Some start) None) other; draws = refl })
+        (λ k other. record { place = refl; stub = refl; timer = refl; start = ap (λ b. cond b (Some start) None) other; draws = refl })
         (record { settings = λ w. refl; seed = refl; untimed = record { act = λ k. refl; offer = refl; tick = refl }; end = refl })
         (still_some number slot (Ok (Late number start)) here refl))
       where
         held : (slot : Slot) → slot_at d number ≡ Some slot → slot.start ≡ None → HoldsSlot (lines ++ (Ok (Late number start)) ∷ []) number (Some (record slot { start = Some start }))
         held slot here free = (let old : HoldsSlot lines number (Some slot) = subst (HoldsSlot lines number) here (h.slots number) in record {
           place = kept (node_for number) lines (Ok (Late number start)) (Some (slot.id, slot.place)) old.place refl;
+          stub = kept (stub_for number) lines (Ok (Late number start)) slot.stub old.stub refl;
           timer = kept (timer_for number) lines (Ok (Late number start)) slot.to old.timer refl;
           start = gained (start_for number) lines (Ok (Late number start)) slot.start start old.start free (ap (λ b. cond b (Some start) None) (eqb_same number));
           draws = old.draws ∙ same_values (draw_for number) lines (Ok (Late number start)) refl;
@@ -354,13 +376,14 @@ module _ (lines : List ParsedLine) (d : Draft) (h : Holds lines d) where
     timer_step number to few =
         once_step (Ok (ToNode number to)) number (timer_for number) (λ s. s.to) (λ s. record s { to = Some to }) refl (h.slots number).timer
         (λ slot here free. put_holds (Ok (ToNode number to)) number (record slot { to = Some to }) few (held slot here free)
-        (λ k other. record { place = refl; timer = ap (λ b. cond b (Some to) None) other; start = refl; draws = refl })
+        (λ k other. record { place = refl; stub = refl; timer = ap (λ b. cond b (Some to) None) other; start = refl; draws = refl })
         (record { settings = λ w. refl; seed = refl; untimed = record { act = λ k. refl; offer = refl; tick = refl }; end = refl })
         (still_some number slot (Ok (ToNode number to)) here refl))
       where
         held : (slot : Slot) → slot_at d number ≡ Some slot → slot.to ≡ None → HoldsSlot (lines ++ (Ok (ToNode number to)) ∷ []) number (Some (record slot { to = Some to }))
         held slot here free = (let old : HoldsSlot lines number (Some slot) = subst (HoldsSlot lines number) here (h.slots number) in record {
           place = kept (node_for number) lines (Ok (ToNode number to)) (Some (slot.id, slot.place)) old.place refl;
+          stub = kept (stub_for number) lines (Ok (ToNode number to)) slot.stub old.stub refl;
           timer = gained (timer_for number) lines (Ok (ToNode number to)) slot.to to old.timer free (ap (λ b. cond b (Some to) None) (eqb_same number));
           start = kept (start_for number) lines (Ok (ToNode number to)) slot.start old.start refl;
           draws = old.draws ∙ same_values (draw_for number) lines (Ok (ToNode number to)) refl;
@@ -372,6 +395,7 @@ module _ (lines : List ParsedLine) (d : Draft) (h : Holds lines d) where
         draw_held : (slot : Slot) → slot_at d number ≡ Some slot → HoldsSlot (lines ++ Ok (Draw number draw) ∷ []) number (Some (record slot { draws = slot.draws ++ draw ∷ [] }))
         draw_held slot here = (let held : HoldsSlot lines number (Some slot) = subst (HoldsSlot lines number) here (h.slots number) in record {
           place = kept (node_for number) lines (Ok (Draw number draw)) (Some (slot.id, slot.place)) held.place refl;
+          stub = kept (stub_for number) lines (Ok (Draw number draw)) slot.stub held.stub refl;
           timer = kept (timer_for number) lines (Ok (Draw number draw)) slot.to held.timer refl;
           start = kept (start_for number) lines (Ok (Draw number draw)) slot.start held.start refl;
           draws = ap (λ ds. ds ++ draw ∷ []) held.draws ∙ one_more (draw_for number) lines (Ok (Draw number draw)) draw (ap (λ b. cond b (Some draw) None) (eqb_same number));
@@ -383,7 +407,7 @@ module _ (lines : List ParsedLine) (d : Draft) (h : Holds lines d) where
         counted slot here false many = (
           rw (no_end, known number slot here, many) refl,
           put_holds (Ok (Draw number draw)) number (record slot { draws = slot.draws ++ draw ∷ [] }) few (draw_held slot here)
-              (λ k other. record { place = refl; timer = refl; start = refl; draws = ap (λ b. cond b (Some draw) None) other })
+              (λ k other. record { place = refl; stub = refl; timer = refl; start = refl; draws = ap (λ b. cond b (Some draw) None) other })
               (record { settings = λ w. refl; seed = refl; untimed = record { act = λ k. refl; offer = refl; tick = refl }; end = refl })
               (still_some number slot (Ok (Draw number draw)) here refl),
         )
@@ -432,19 +456,20 @@ module _ (lines : List ParsedLine) (d : Draft) (h : Holds lines d) where
         go None here = rw (no_end, unknown number here) refl
         go (Some slot) here =
             timed_step (Ok (Offer tick number frame)) tick (OfferDeed (1 + offers_in d.acts) number frame) (record { gives = refl; tick = refl; offers = refl }) (λ w. refl) refl
-            (λ k. record { place = refl; timer = refl; start = refl; draws = refl }) refl refl
+            (λ k. record { place = refl; stub = refl; timer = refl; start = refl; draws = refl }) refl refl
             (ap (λ b. cond (some_gives end_from lines) (Some AfterEnd) (cond (not b) (Some UnknownNode) (cond (ltb tick (latest_tick lines)) (Some Order) (cond (leb most_acts (length (filter_map tick_from lines))) (Some TooMany) None)))) (known number slot here))
 
     noise_step : (tick until : ℕ) → IsStep lines (Ok (Noise tick until)) (timed_after d tick (NoiseDeed until))
     noise_step tick until =
         timed_step (Ok (Noise tick until)) tick (NoiseDeed until) (record { gives = refl; tick = refl; offers = refl }) (λ w. refl) refl
-        (λ k. record { place = refl; timer = refl; start = refl; draws = refl }) refl refl refl
+        (λ k. record { place = refl; stub = refl; timer = refl; start = refl; draws = refl }) refl refl refl
 
     line_step : (line : ScriptLine) → InRange line → IsStep lines (Ok line) (line_after d line)
     line_step Skipped range = (refl, skipped_step)
     line_step (Set w n) range = set_step w n
     line_step (Seed n) range = seed_step n
     line_step (Node number id place) range = node_step number id place range.0
+    line_step (Stub number stub) range = stub_step number stub range.0
     line_step (Late number start) range = late_step number start range.0
     line_step (ToNode number to) range = timer_step number to range.0
     line_step (Draw number draw) range = draw_step number draw range.0

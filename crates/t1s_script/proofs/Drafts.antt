@@ -7,7 +7,7 @@ use Rattle.std.proofs.Math.Seq.{take-append_seam}
 use Rattle.std.proofs.lemmas.List.{append-nil, append_assoc}
 use Rattle.t1s_script.specs.Settings.{default_of}
 use Rattle.t1s_script.specs.ParsedLine.{ParsedLine, parsed_line}
-use Rattle.t1s_script.specs.Values.{number_for, seed_from, start_for, timer_for, draw_for, end_from, first_given, setting_of}
+use Rattle.t1s_script.specs.Values.{number_for, seed_from, stub_for, start_for, timer_for, draw_for, end_from, first_given, setting_of}
 use Rattle.t1s_script.specs.Rules.{reason_of}
 use Rattle.t1s_script.specs.Reading.{refusal_of, first_refusal_or, script_by, script_from, script_after_first, node_of_line, nodes_of_number, nodes_of, draw_list, refused_at}
 use Rattle.t1s_script.specs.Draft.{given, value_in, draft_start, slot_at, draft_after, node_of, nodes_from, script_with, script_at}
@@ -17,6 +17,7 @@ use Rattle.t1s_script.specs.declared.refusals.ScriptReason.{ScriptReason}
 use Rattle.t1s_script.specs.declared.refusals.ScriptReason.TheVariants.{NoEnd}
 use Rattle.t1s_script.specs.declared.refusals.ScriptRefusal.{ScriptRefusal}
 use Rattle.t1s_script.specs.declared.script.Script.{Script}
+use Rattle.t1s_script.specs.declared.versions.Version.{Version}
 use Rattle.t1s_script.specs.declared.words.Setting.{Setting}
 use Rattle.t1s_script.specs.declared.words.Setting.TheVariants.{Count, To, Rise, Fall, Burst, Room}
 use Rattle.t1s_script.proofs.Ranges.{parsed_line_range}
@@ -30,9 +31,10 @@ node_held : (lines : List ParsedLine) (to number : ℕ) (slot : Slot) → to ≡
 node_held lines to number slot timer held =
     let own : unwrap_or slot.to to ≡ first_given (timer_for number) lines (setting_of To lines) =
     ap (unwrap_or slot.to) timer ∙ first (timer_for number) lines slot.to (setting_of To lines) held.timer in
+    let stub : unwrap_or slot.stub 0 ≡ first_given (stub_for number) lines 0 = first (stub_for number) lines slot.stub 0 held.stub in
     let start : unwrap_or slot.start 0 ≡ first_given (start_for number) lines 0 = first (start_for number) lines slot.start 0 held.start in
     let draws : draw_list slot.draws ≡ draw_list (filter_map (draw_for number) lines) = ap draw_list held.draws in
-    λ i. record { no = number; id = slot.id; place = slot.place; to = own i; start = start i; draws = draws i }
+    λ i. record { no = number; id = slot.id; place = slot.place; stub = stub i; to = own i; start = start i; draws = draws i }
 
 -- the nodes of one slot, and of all slots from a number on
 slot_held : (lines : List ParsedLine) (to number : ℕ) (slot : Option Slot) → to ≡ setting_of To lines → HoldsSlot lines number slot → option_to_list (option_map (node_of to number) slot) ≡ nodes_of_number lines number
@@ -82,27 +84,27 @@ end_held lines d number h count None e = ap (λ k. refused_at k NoEnd) count ∙
 end_held lines d number h count (Some last) e = ap Ok (script_held lines d last h) ∙ ap (script_by lines) e
 
 -- where a draft holds the lines before, reading the others gives what is said over all lines
-reading_answers : (before : List ParsedLine) (d : Draft) (all : List ParsedLine) (n : ℕ) (rest : List (List ℕ)) → Holds before d → all ≡ before ++ map parsed_line rest → n ≡ length before
-    → reading_from (n + 1) (Ok d) (map parsed_line rest) ≡ answer_from all n (map parsed_line rest)
-reading_answers before d all n [] h whole count =
+reading_answers : (version : Version) (before : List ParsedLine) (d : Draft) (all : List ParsedLine) (n : ℕ) (rest : List (List ℕ)) → Holds before d → all ≡ before ++ map (parsed_line version) rest → n ≡ length before
+    → reading_from (n + 1) (Ok d) (map (parsed_line version) rest) ≡ answer_from all n (map (parsed_line version) rest)
+reading_answers version before d all n [] h whole count =
     end_held before d (n + 1 + 1) h (omega arith) d.end h.end ∙ ap (λ lines. script_by lines (filter_map end_from lines)) (sym (whole ∙ append-nil before))
-reading_answers before d all n (line ∷ rest) h whole count = go (draft_after d (parsed_line line)) (unskipped_step before d h (parsed_line line) (parsed_line_range line))
-    (λ e held. reading_answers (before ++ parsed_line line ∷ []) e all (n + 1) rest held (whole ∙ sym (append_assoc before (parsed_line line ∷ []) (map parsed_line rest))) (omega (arith, length-append before (parsed_line line ∷ []))))
+reading_answers version before d all n (line ∷ rest) h whole count = go (draft_after d (parsed_line version line)) (unskipped_step before d h (parsed_line version line) (parsed_line_range version line))
+    (λ e held. reading_answers version (before ++ parsed_line version line ∷ []) e all (n + 1) rest held (whole ∙ sym (append_assoc before (parsed_line version line ∷ []) (map (parsed_line version) rest))) (omega (arith, length-append before (parsed_line version line ∷ []))))
   where
     front : take n all ≡ before
-    front = ap (λ k. take k all) count ∙ ap (λ lines. take (length before) lines) whole ∙ take-append_seam before (parsed_line line ∷ map parsed_line rest)
+    front = ap (λ k. take k all) count ∙ ap (λ lines. take (length before) lines) whole ∙ take-append_seam before (parsed_line version line ∷ map (parsed_line version) rest)
 
-    broken : (o : Option ScriptReason) → reason_of before (parsed_line line) ≡ o → refusal_of all (n, parsed_line line) ≡ option_map (λ reason. record { line = n + 2; reason = reason }) o
-    broken o step = ap (λ lines. option_map (λ reason. record { line = n + 2; reason = reason }) (reason_of lines (parsed_line line))) front ∙ ap (λ r. option_map (λ reason. record { line = n + 2; reason = reason }) r) step
+    broken : (o : Option ScriptReason) → reason_of before (parsed_line version line) ≡ o → refusal_of all (n, parsed_line version line) ≡ option_map (λ reason. record { line = n + 2; reason = reason }) o
+    broken o step = ap (λ lines. option_map (λ reason. record { line = n + 2; reason = reason }) (reason_of lines (parsed_line version line))) front ∙ ap (λ r. option_map (λ reason. record { line = n + 2; reason = reason }) r) step
 
     answer : Option ScriptRefusal → Result Script ScriptRefusal
-    answer o = first_refusal_or (cons_option o (filter_map (refusal_of all) (enumerate_from (n + 1) (map parsed_line rest)))) (script_by all (filter_map end_from all))
+    answer o = first_refusal_or (cons_option o (filter_map (refusal_of all) (enumerate_from (n + 1) (map (parsed_line version) rest)))) (script_by all (filter_map end_from all))
 
-    go : (r : Result Draft ScriptReason) → IsStep before (parsed_line line) r → ((e : Draft) → Holds (before ++ parsed_line line ∷ []) e → reading_from (n + 1 + 1) (Ok e) (map parsed_line rest) ≡ answer_from all (n + 1) (map parsed_line rest))
-        → reading_from (n + 1 + 1) r (map parsed_line rest) ≡ answer_from all n (parsed_line line ∷ map parsed_line rest)
+    go : (r : Result Draft ScriptReason) → IsStep before (parsed_line version line) r → ((e : Draft) → Holds (before ++ parsed_line version line ∷ []) e → reading_from (n + 1 + 1) (Ok e) (map (parsed_line version) rest) ≡ answer_from all (n + 1) (map (parsed_line version) rest))
+        → reading_from (n + 1 + 1) r (map (parsed_line version) rest) ≡ answer_from all n (parsed_line version line ∷ map (parsed_line version) rest)
     go (Err reason) step later = let next : n + 1 + 1 ≡ n + 2 = omega arith in ap (λ k. refused_at k reason) next ∙ ap answer (sym (broken (Some reason) step))
     go (Ok e) step later = later e step.1 ∙ ap answer (sym (broken None step.0))
 
 -- the lines after the first, read line by line
-pub by_drafts : (lines : List (List ℕ)) → reading_from 1 (Ok draft_start) (map parsed_line lines) ≡ script_after_first (map parsed_line lines)
-by_drafts lines = reading_answers [] draft_start (map parsed_line lines) 0 lines start_holds refl refl
+pub by_drafts : (version : Version) (lines : List (List ℕ)) → reading_from 1 (Ok draft_start) (map (parsed_line version) lines) ≡ script_after_first (map (parsed_line version) lines)
+by_drafts version lines = reading_answers version [] draft_start (map (parsed_line version) lines) 0 lines start_holds refl refl

@@ -9,3 +9,4 @@ pub mod Validity
 pub mod Premises
 pub mod ThinScripts
 mod HexTexts
+pub mod ScriptSpans

@@ -6,7 +6,7 @@ use Rattle.std.specs.List.Sorted.{IsStrictlyIncreasing}
 use native.Mathlib.Numerals.{unary_clauses}
 use Rattle.std.proofs.lemmas.List.Elements.{All-cons, All-nil}
 use Rattle.t1s_base.specs.Limits.{most_nodes, last_node, most_ticks}
-use Rattle.t1s_script.specs.Limits.{most_draws, last_draw}
+use Rattle.t1s_script.specs.Limits.{most_draws, last_draw, longest_stub}
 use Rattle.t1s_script.specs.Reading.{draw_list}
 use Rattle.t1s_script.specs.Draft.{node_of, nodes_from}
 use Rattle.t1s_script.specs.Script.{AreDraws, IsNodeLine, numbers_of}
@@ -16,6 +16,7 @@ use Rattle.t1s_script.specs.declared.draft.Slot.{Slot}
 pub record IsSlot (slot : Slot) : Type 0 where
   pub id : slot.id ≤ 255
   pub place : slot.place ≤ 255
+  pub stub : (u : ℕ) → slot.stub ≡ Some u → u ≤ longest_stub
   pub to : (n : ℕ) → slot.to ≡ Some n → (16 ≤ n) × (n ≤ 255)
   pub start : (t : ℕ) → slot.start ≡ Some t → t ≤ most_ticks
   pub few_draws : length slot.draws ≤ most_draws
@@ -32,6 +33,10 @@ start_range : (o : Option ℕ) → ((t : ℕ) → o ≡ Some t → t ≤ most_ti
 start_range None h = omega arith
 start_range (Some t) h = h t refl
 
+stub_range : (o : Option ℕ) → ((u : ℕ) → o ≡ Some u → u ≤ longest_stub) → unwrap_or o 0 ≤ longest_stub
+stub_range None h = omega arith
+stub_range (Some u) h = h u refl
+
 timer_range : (o : Option ℕ) (to : ℕ) → 16 ≤ to → to ≤ 255 → ((n : ℕ) → o ≡ Some n → (16 ≤ n) × (n ≤ 255)) → (16 ≤ unwrap_or o to) × (unwrap_or o to ≤ 255)
 timer_range None to low high h = (low, high)
 timer_range (Some n) to low high h = h n refl
@@ -45,6 +50,7 @@ node_range to number slot low high few h = record {
   no_high = few;
   id_high = h.id;
   place_high = h.place;
+  stub_high = stub_range slot.stub h.stub;
   to_low = (timer_range slot.to to low high h.to).0;
   to_high = (timer_range slot.to to low high h.to).1;
   start_high = start_range slot.start h.start;

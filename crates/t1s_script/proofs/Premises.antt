@@ -5,7 +5,8 @@ use Rattle.std.proofs.lemmas.List.{drop_more, take_more}
 use Rattle.std.proofs.lemmas.List.Elements.{All-cons, All-nil}
 use Rattle.std.proofs.lemmas.Bool.Decides.{nat_tests}
 use Rattle.std.proofs.lemmas.Option.{slice_get-get_or, slice_get_within, get_or_from_slice_get}
-use Rattle.t1s_script.specs.Fit.{coordinators, fitness_of, high_id, IsFit, is_noise, noise_or, or_else, other_timer, repeat_or, span_of, unfit, unmet, with_high_id, with_long_bursts, with_long_cable, with_noise, with_other_timer, with_repeat, with_repeat_after, without_one_coordinator}
+use Rattle.t1s_script.specs.Fit.{coordinators, fitness_of, high_id, IsFit, is_noise, noise_or, or_else, other_timer, repeat_or, unfit, unmet, with_high_id, with_long_bursts, with_long_cable, with_noise, with_other_timer, with_repeat, with_repeat_after, without_one_coordinator}
+use Rattle.t1s_script.specs.Taps.{span_of}
 use Rattle.t1s_script.specs.declared.fitness.Unfit.{Unfit}
 use Rattle.t1s_script.specs.declared.script.Act.{Act}
 use Rattle.t1s_script.specs.declared.script.Deed.{Deed}

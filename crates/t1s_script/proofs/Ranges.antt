@@ -13,17 +13,18 @@ use Rattle.t1s_base.specs.Numbers.{number_of}
 use Rattle.t1s_base.specs.Limits.{last_node, most_ticks}
 use Rattle.t1s_script.specs.Lines.{fields_of}
 use Rattle.t1s_script.specs.Settings.{lowest, highest, setting_range}
-use Rattle.t1s_script.specs.Limits.{last_draw}
+use Rattle.t1s_script.specs.Limits.{last_draw, longest_stub}
 use Rattle.t1s_script.specs.FrameTexts.{frame_within, frame_decoded, hex_frame, sole_octet, frame_filled, fill_frame}
-use Rattle.t1s_script.specs.ParsedLine.{word_of, up_to, is_within, one_within, two_within, three_within, one_number, two_numbers, three_numbers, says, offers, offer_in, fills, fill_in, lasts, line_by_word, line_in, is_skipped, parsed_line}
+use Rattle.t1s_script.specs.ParsedLine.{word_in, up_to, is_within, one_within, two_within, three_within, one_number, two_numbers, three_numbers, says, offers, offer_in, fills, fill_in, lasts, line_by_word, line_in, is_skipped, parsed_line}
 use Rattle.t1s_script.specs.declared.refusals.ScriptReason.{ScriptReason}
 use Rattle.t1s_script.specs.declared.refusals.ScriptReason.TheVariants.{OutOfRange, FrameSize}
+use Rattle.t1s_script.specs.declared.versions.Version.{Version}
 use Rattle.t1s_script.specs.declared.words.Range.{Range}
 use Rattle.t1s_script.specs.declared.words.Setting.TheVariants.{To}
 use Rattle.t1s_script.specs.declared.words.Word.{Word}
-use Rattle.t1s_script.specs.declared.words.Word.TheVariants.{Set as SetWord, Seed as SeedWord, Node as NodeWord, Late as LateWord, ToNode as ToNodeWord, Draw as DrawWord, Offer as OfferWord, Fill as FillWord, Noise as NoiseWord, End as EndWord}
+use Rattle.t1s_script.specs.declared.words.Word.TheVariants.{Set as SetWord, Seed as SeedWord, Node as NodeWord, Stub as StubWord, Late as LateWord, ToNode as ToNodeWord, Draw as DrawWord, Offer as OfferWord, Fill as FillWord, Noise as NoiseWord, End as EndWord}
 use Rattle.t1s_script.specs.declared.words.ScriptLine.{ScriptLine}
-use Rattle.t1s_script.specs.declared.words.ScriptLine.TheVariants.{Skipped, Set, Seed, Node, Late, ToNode, Draw, Offer, Noise, End}
+use Rattle.t1s_script.specs.declared.words.ScriptLine.TheVariants.{Skipped, Set, Seed, Node, Stub, Late, ToNode, Draw, Offer, Noise, End}
 
 -- the numbers of a line are in their ranges
 abbrev pub InRange : ScriptLine → Type 0
@@ -31,6 +32,7 @@ InRange Skipped = Unit {0}
 InRange (Set w n) = (lowest w ≤ n) × (n ≤ highest w)
 InRange (Seed n) = n ≤ 4294967295
 InRange (Node number id place) = (number ≤ last_node) × (id ≤ 255) × (place ≤ 255)
+InRange (Stub number stub) = (number ≤ last_node) × (stub ≤ longest_stub)
 InRange (Late number start) = (number ≤ last_node) × (start ≤ most_ticks)
 InRange (ToNode number to) = (number ≤ last_node) × (16 ≤ to) × (to ≤ 255)
 InRange (Draw number draw) = (number ≤ last_node) × (draw ≤ last_draw)
@@ -190,6 +192,9 @@ line_by_word_range (Some SeedWord) fields l e = says_range (λ n. Seed n) (one_n
 line_by_word_range (Some NodeWord) fields l e =
     says_range (λ n. Node n.0 n.1 n.2) (three_numbers (up_to last_node) (up_to 255) (up_to 255) fields) l
     (λ ns made. (let r = three_of (up_to last_node) (up_to 255) (up_to 255) fields ns made in (r.0.1, r.1.1, r.2.1))) e
+line_by_word_range (Some StubWord) fields l e =
+    says_range (λ n. Stub n.0 n.1) (two_numbers (up_to last_node) (up_to longest_stub) fields) l
+    (λ ns made. (let r = two_of (up_to last_node) (up_to longest_stub) fields ns made in (r.0.1, r.1.1))) e
 line_by_word_range (Some LateWord) fields l e =
     says_range (λ n. Late n.0 n.1) (two_numbers (up_to last_node) (up_to most_ticks) fields) l
     (λ ns made. (let r = two_of (up_to last_node) (up_to most_ticks) fields ns made in (r.0.1, r.1.1))) e
@@ -206,13 +211,13 @@ line_by_word_range (Some NoiseWord) fields l e =
 line_by_word_range (Some EndWord) fields l e =
     says_range (λ n. End n) (one_number (record { least = 1; greatest = most_ticks }) fields) l (one_of (record { least = 1; greatest = most_ticks }) fields) e
 
-line_in_range : (fields : List (List ℕ)) (l : ScriptLine) → line_in fields ≡ Ok l → InRange l
-line_in_range [] l e = cc
-line_in_range (f ∷ fs) l e = line_by_word_range (word_of f) fs l e
+line_in_range : (version : Version) (fields : List (List ℕ)) (l : ScriptLine) → line_in version fields ≡ Ok l → InRange l
+line_in_range version [] l e = cc
+line_in_range version (f ∷ fs) l e = line_by_word_range (word_in version f) fs l e
 
-pub parsed_line_range : (line : List ℕ) (l : ScriptLine) → parsed_line line ≡ Ok l → InRange l
-parsed_line_range line l e = go (is_skipped line) e
+pub parsed_line_range : (version : Version) (line : List ℕ) (l : ScriptLine) → parsed_line version line ≡ Ok l → InRange l
+parsed_line_range version line l e = go (is_skipped line) e
   where
-    go : (b : Bool) → cond b (Ok Skipped) (line_in (fields_of line)) ≡ Ok l → InRange l
+    go : (b : Bool) → cond b (Ok Skipped) (line_in version (fields_of line)) ≡ Ok l → InRange l
     go true e = let same : Skipped ≡ l = cc in subst InRange same tt
-    go false e = line_in_range (fields_of line) l e
+    go false e = line_in_range version (fields_of line) l e

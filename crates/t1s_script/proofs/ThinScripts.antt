@@ -11,16 +11,17 @@ use Rattle.t1s_base.specs.Limits.{most_nodes}
 use Rattle.t1s_script.specs.Lines.{lines_of}
 use Rattle.t1s_script.specs.ParsedLine.{ParsedLine, parsed_line}
 use Rattle.t1s_script.specs.Draft.{value_in, draft_start, with_slot, new_slot, unskipped_after, draft_after, node_of, nodes_from, script_with}
-use Rattle.t1s_script.specs.Reading.{draw_list, script_after_first, script_in, refused_at}
+use Rattle.t1s_script.specs.Reading.{draw_list, script_with_version, script_in, refused_at}
 use Rattle.t1s_script.specs.ThinForm.{are_thin_nodes, are_thin_after_count, are_thin, have_thin_form, IsThinNode, IsThinScript, ThinScriptsHaveDefaults}
 use Rattle.t1s_script.specs.declared.draft.Draft.{Draft}
 use Rattle.t1s_script.specs.declared.draft.Slot.{Slot}
-use Rattle.t1s_script.specs.declared.refusals.ScriptReason.TheVariants.{TooLong, FirstLine, Twice, Order, NoNode}
+use Rattle.t1s_script.specs.declared.refusals.ScriptReason.TheVariants.{TooLong, Twice, Order, NoNode}
 use Rattle.t1s_script.specs.declared.refusals.ScriptRefusal.{ScriptRefusal}
 use Rattle.t1s_script.specs.declared.script.Script.{Script}
+use Rattle.t1s_script.specs.declared.versions.Version.TheVariants.{V1, V2}
 use Rattle.t1s_script.specs.declared.words.Setting.TheVariants.{Count, To, Rise, Fall, Burst, Room}
 use Rattle.t1s_script.specs.declared.words.ScriptLine.{ScriptLine}
-use Rattle.t1s_script.specs.declared.words.ScriptLine.TheVariants.{Skipped, Set, Seed, Node, Late, ToNode, Draw, Offer, Noise, End}
+use Rattle.t1s_script.specs.declared.words.ScriptLine.TheVariants.{Skipped, Set, Seed, Node, Stub, Late, ToNode, Draw, Offer, Noise, End}
 use Rattle.t1s_script.proofs.Ranges.{InRange, parsed_line_range}
 use Rattle.t1s_script.proofs.DraftSteps.{any_set, none_free}
 use Rattle.t1s_script.proofs.Drafts.{reading_from, by_drafts}
@@ -31,6 +32,7 @@ Reads r = (s : Script) × (r ≡ Ok s) × IsThinScript s
 
 -- only the `node` line of that number stood
 record IsPlain (slot : Slot) : Type 0 where
+  pub stub : slot.stub ≡ None
   pub to : slot.to ≡ None
   pub start : slot.start ≡ None
   pub draws : slot.draws ≡ []
@@ -57,7 +59,7 @@ nodes_thin to number [] timer h = All-nil IsThinNode
 nodes_thin to number (None ∷ slots) timer h = nodes_thin to (number + 1) slots timer (λ i slot e. h (suc i) slot e)
 nodes_thin to number (Some slot ∷ slots) timer h =
     All-cons IsThinNode (node_of to number slot) (nodes_from to (number + 1) slots)
-    (record { to = ap (λ o. unwrap_or o to) (h 0 slot refl).to ∙ timer; start = ap (λ o. unwrap_or o 0) (h 0 slot refl).start; draws = ap draw_list (h 0 slot refl).draws })
+    (record { stub = ap (λ o. unwrap_or o 0) (h 0 slot refl).stub; to = ap (λ o. unwrap_or o to) (h 0 slot refl).to ∙ timer; start = ap (λ o. unwrap_or o 0) (h 0 slot refl).start; draws = ap draw_list (h 0 slot refl).draws })
     (nodes_thin to (number + 1) slots timer (λ i s e. h (suc i) s e))
 
 script_thin : (least : ℕ) (d : Draft) (last : ℕ) → IsThinDraft least d → IsThinScript (script_with (record d { end = Some last }) last)
@@ -106,7 +108,7 @@ node_thin least number id place d h above = record {
   end = h.end;
   size = length-set d.slots number (Some (new_slot id place)) ∙ h.size;
   free = λ i high. free_set d.slots number (new_slot id place) i (omega arith) (h.free i (omega arith));
-  plain = plain_set d.slots number (new_slot id place) (record { to = refl; start = refl; draws = refl }) h.plain;
+  plain = plain_set d.slots number (new_slot id place) (record { stub = refl; to = refl; start = refl; draws = refl }) h.plain;
   acts = h.acts;
   latest = h.latest;
 }
@@ -134,6 +136,7 @@ one_read number least d (Err reason) rest range h any next thin = cc
 one_read number least d (Ok Skipped) rest range h any next thin = cc
 one_read number least d (Ok (Set w n)) rest range h any next thin = cc
 one_read number least d (Ok (Seed n)) rest range h any next thin = cc
+one_read number least d (Ok (Stub n stub)) rest range h any next thin = cc
 one_read number least d (Ok (Late n start)) rest range h any next thin = cc
 one_read number least d (Ok (ToNode n to)) rest range h any next thin = cc
 one_read number least d (Ok (Draw n draw)) rest range h any next thin = cc
@@ -149,21 +152,22 @@ one_read number least d (Ok (Node n id place)) rest range h any next thin =
     node_read number least n id place d rest h above
     (next (n + 1) (with_slot d n (new_slot id place)) (node_thin least n id place d h above) (any_set d.slots n (new_slot id place) (omega (arith, h.size))) second_holds)
 
-nodes_read : (number least : ℕ) (d : Draft) (lines : List (List ℕ)) → IsThinDraft least d → list_any is_some d.slots ≡ true → are_thin_nodes least (map parsed_line lines) ≡ true → Reads (reading_from number (Ok d) (map parsed_line lines))
+nodes_read : (number least : ℕ) (d : Draft) (lines : List (List ℕ)) → IsThinDraft least d → list_any is_some d.slots ≡ true → are_thin_nodes least (map (parsed_line V1) lines) ≡ true → Reads (reading_from number (Ok d) (map (parsed_line V1) lines))
 nodes_read number least d [] h any thin = cc
 nodes_read number least d (line ∷ lines) h any thin =
-    one_read number least d (parsed_line line) (map parsed_line lines) (parsed_line_range line) h any
+    one_read number least d (parsed_line V1 line) (map (parsed_line V1) lines) (parsed_line_range V1 line) h any
     (λ k e so_far some later. nodes_read (number + 1) k e lines so_far some later) thin
 
-after_count_read : (number : ℕ) (d : Draft) (lines : List (List ℕ)) → IsThinDraft 0 d → are_thin_after_count (map parsed_line lines) ≡ true → Reads (reading_from number (Ok d) (map parsed_line lines))
+after_count_read : (number : ℕ) (d : Draft) (lines : List (List ℕ)) → IsThinDraft 0 d → are_thin_after_count (map (parsed_line V1) lines) ≡ true → Reads (reading_from number (Ok d) (map (parsed_line V1) lines))
 after_count_read number d [] h thin = cc
-after_count_read number d (line ∷ lines) h thin = go (parsed_line line) (parsed_line_range line) thin
+after_count_read number d (line ∷ lines) h thin = go (parsed_line V1 line) (parsed_line_range V1 line) thin
   where
-    go : (x : ParsedLine) → ((l : ScriptLine) → x ≡ Ok l → InRange l) → are_thin_after_count (x ∷ map parsed_line lines) ≡ true → Reads (reading_from number (Ok d) (x ∷ map parsed_line lines))
+    go : (x : ParsedLine) → ((l : ScriptLine) → x ≡ Ok l → InRange l) → are_thin_after_count (x ∷ map (parsed_line V1) lines) ≡ true → Reads (reading_from number (Ok d) (x ∷ map (parsed_line V1) lines))
     go (Err reason) range thin = cc
     go (Ok Skipped) range thin = cc
     go (Ok (Set w n)) range thin = cc
     go (Ok (Seed n)) range thin = cc
+    go (Ok (Stub n stub)) range thin = cc
     go (Ok (Late n start)) range thin = cc
     go (Ok (ToNode n to)) range thin = cc
     go (Ok (Draw n draw)) range thin = cc
@@ -172,7 +176,7 @@ after_count_read number d (line ∷ lines) h thin = go (parsed_line line) (parse
     go (Ok (End last)) range thin = cc
     go (Ok (Node n id place)) range thin =
         let few = (range (Node n id place) refl).0 in
-        node_read number 0 n id place d (map parsed_line lines) h (omega arith)
+        node_read number 0 n id place d (map (parsed_line V1) lines) h (omega arith)
         (nodes_read (number + 1) (n + 1) (with_slot d n (new_slot id place)) lines (node_thin 0 n id place d h (omega arith)) (any_set d.slots n (new_slot id place) (omega (arith, h.size))) thin)
 
 -- after the line `count N`
@@ -195,15 +199,16 @@ counted_thin n = record {
   latest = refl;
 }
 
-lines_read : (lines : List (List ℕ)) → are_thin (map parsed_line lines) ≡ true → Reads (reading_from 1 (Ok draft_start) (map parsed_line lines))
+lines_read : (lines : List (List ℕ)) → are_thin (map (parsed_line V1) lines) ≡ true → Reads (reading_from 1 (Ok draft_start) (map (parsed_line V1) lines))
 lines_read [] thin = cc
-lines_read (line ∷ lines) thin = go (parsed_line line) thin
+lines_read (line ∷ lines) thin = go (parsed_line V1 line) thin
   where
-    go : (x : ParsedLine) → are_thin (x ∷ map parsed_line lines) ≡ true → Reads (reading_from 1 (Ok draft_start) (x ∷ map parsed_line lines))
+    go : (x : ParsedLine) → are_thin (x ∷ map (parsed_line V1) lines) ≡ true → Reads (reading_from 1 (Ok draft_start) (x ∷ map (parsed_line V1) lines))
     go (Err reason) thin = cc
     go (Ok Skipped) thin = cc
     go (Ok (Seed n)) thin = cc
     go (Ok (Node n id place)) thin = cc
+    go (Ok (Stub n stub)) thin = cc
     go (Ok (Late n start)) thin = cc
     go (Ok (ToNode n to)) thin = cc
     go (Ok (Draw n draw)) thin = cc
@@ -220,10 +225,10 @@ lines_read (line ∷ lines) thin = go (parsed_line line) thin
 all_read : (lines : List (List ℕ)) → have_thin_form lines ≡ true → Reads (script_in lines)
 all_read [] thin = cc
 all_read (first ∷ lines) thin =
-    let first_holds = first_so (bytes_eq first (codes "t1s 1")) (are_thin (map parsed_line lines)) thin in
-    let second_holds = second_so (bytes_eq first (codes "t1s 1")) (are_thin (map parsed_line lines)) thin in
+    let first_holds = first_so (bytes_eq first (codes "t1s 1")) (are_thin (map (parsed_line V1) lines)) thin in
+    let second_holds = second_so (bytes_eq first (codes "t1s 1")) (are_thin (map (parsed_line V1) lines)) thin in
     let read = lines_read lines second_holds in
-    (read.0, ap (λ b. cond b (script_after_first (map parsed_line lines)) (refused_at 1 FirstLine)) first_holds ∙ sym (by_drafts lines) ∙ read.1, read.2)
+    (read.0, ap (λ b. script_with_version (cond b (Some V1) (cond (bytes_eq first (codes "t1s 2")) (Some V2) None)) lines) first_holds ∙ sym (by_drafts V1 lines) ∙ read.1, read.2)
 
 pub thin_scripts : ThinScriptsHaveDefaults
 thin_scripts octets thin =

@@ -1,7 +1,6 @@
 -- The script that reading gives is valid.
 use Rattle.std.proofs.Common.{◌≡◌, ℕ, zero, suc, ◌+◌, ◌<◌, ◌≤◌, Bool, true, false, cond, leb, ltb, List, [], ◌∷◌, ◌++◌, length, length-append, get_or, map, set, Option, Some, None, Result, Ok, Err, refl, sym, ap, ◌∙◌, subst, arith, unwrap_or, replicate, All, ◌-◌}
-use Rattle.std.specs.Prelude.{is_some, codes, IfOk, filter_map}
-use Rattle.std.specs.Str.{bytes_eq}
+use Rattle.std.specs.Prelude.{is_some, IfOk, filter_map}
 use Rattle.std.specs.List.{list_any, range_with_len}
 use Rattle.std.specs.List.Sorted.{IsNonDecreasing, IsStrictlyIncreasing}
 use Rattle.std.proofs.Math.ListN.{length-set}
@@ -14,26 +13,28 @@ use Rattle.t1s_frame.specs.Frame.{IsFrame}
 use Rattle.t1s_base.specs.Limits.{most_nodes, last_node, most_ticks}
 use Rattle.t1s_script.specs.Lines.{lines_of}
 use Rattle.t1s_script.specs.Settings.{lowest, highest, default_of}
-use Rattle.t1s_script.specs.Limits.{most_acts, most_draws, last_draw}
+use Rattle.t1s_script.specs.Limits.{most_acts, most_draws, last_draw, longest_stub}
+use Rattle.t1s_script.specs.Versions.{version_of}
 use Rattle.t1s_script.specs.ParsedLine.{ParsedLine, parsed_line}
-use Rattle.t1s_script.specs.Draft.{given, with_given, value_in, draft_start, slot_at, with_slot, set_after, seed_after, node_after, new_slot, once_in_slot, late_after, timer_after, draw_in_slot, draw_after, with_act, timed_after, offer_after, end_after, line_after, unskipped_after, draft_after, nodes_from, script_with, script_at}
+use Rattle.t1s_script.specs.Draft.{given, with_given, value_in, draft_start, slot_at, with_slot, set_after, seed_after, node_after, new_slot, once_in_slot, stub_after, late_after, timer_after, draw_in_slot, draw_after, with_act, timed_after, offer_after, end_after, line_after, unskipped_after, draft_after, nodes_from, script_with, script_at}
 use Rattle.t1s_script.specs.Script.{IsAct, IsDeed, IsScript, numbers_of, number_in, offer_number, offers_in}
-use Rattle.t1s_script.specs.Reading.{act_at, script_after_first, script_in, script_of, refused_at, IsAnswer, ReadScriptsAreValid}
+use Rattle.t1s_script.specs.Reading.{act_at, script_after_first, script_with_version, script_in, script_of, refused_at, IsAnswer, ReadScriptsAreValid}
 use Rattle.t1s_script.specs.declared.refusals.ScriptFault.{ScriptFault}
 use Rattle.t1s_script.specs.declared.refusals.ScriptFault.TheVariants.{Refused, Memory}
 use Rattle.t1s_script.specs.declared.draft.Draft.{Draft}
 use Rattle.t1s_script.specs.declared.draft.Settings.{Settings}
 use Rattle.t1s_script.specs.declared.draft.Slot.{Slot}
 use Rattle.t1s_script.specs.declared.refusals.ScriptReason.{ScriptReason}
-use Rattle.t1s_script.specs.declared.refusals.ScriptReason.TheVariants.{TooLong, FirstLine, Twice, UnknownNode, Order, TooMany, NoNode}
+use Rattle.t1s_script.specs.declared.refusals.ScriptReason.TheVariants.{TooLong, Twice, UnknownNode, Order, TooMany, NoNode}
 use Rattle.t1s_script.specs.declared.script.Act.{Act}
 use Rattle.t1s_script.specs.declared.script.Deed.{Deed}
 use Rattle.t1s_script.specs.declared.script.Deed.TheVariants.{Offer as OfferDeed, Noise as NoiseDeed}
 use Rattle.t1s_script.specs.declared.script.Script.{Script}
+use Rattle.t1s_script.specs.declared.versions.Version.{Version}
 use Rattle.t1s_script.specs.declared.words.Setting.{Setting}
 use Rattle.t1s_script.specs.declared.words.Setting.TheVariants.{Count, To, Rise, Fall, Burst, Room}
 use Rattle.t1s_script.specs.declared.words.ScriptLine.{ScriptLine}
-use Rattle.t1s_script.specs.declared.words.ScriptLine.TheVariants.{Skipped, Set, Seed, Node, Late, ToNode, Draw, Offer, Noise, End}
+use Rattle.t1s_script.specs.declared.words.ScriptLine.TheVariants.{Skipped, Set, Seed, Node, Stub, Late, ToNode, Draw, Offer, Noise, End}
 use Rattle.t1s_script.proofs.Ranges.{InRange, parsed_line_range}
 use Rattle.t1s_script.proofs.LineActs.{length-filter_map, offers_in-append}
 use Rattle.t1s_script.proofs.Drafts.{reading_from, by_drafts}
@@ -243,7 +244,7 @@ module _ (d : Draft) (h : IsDraft d) (open_end : d.end ≡ None) where
       go true is = cc
       go false is =
           let same : with_slot d number (new_slot id place) ≡ e = cc in
-          subst IsDraft same (slot_valid number (new_slot id place) (record { id = range.1; place = range.2; to = λ n f. cc; start = λ t f. cc; few_draws = omega arith; draws = All-nil (λ draw. draw ≤ last_draw) }))
+          subst IsDraft same (slot_valid number (new_slot id place) (record { id = range.1; place = range.2; stub = λ u f. cc; to = λ n f. cc; start = λ t f. cc; few_draws = omega arith; draws = All-nil (λ draw. draw ≤ last_draw) }))
 
   -- a line that may stand once for a node, where what it puts into a slot is in range
   once_valid : (number : ℕ) (stood : Slot → Option ℕ) (put : Slot → Slot) (e : Draft) → ((slot : Slot) → IsSlot slot → IsSlot (put slot)) → once_in_slot d number stood put (slot_at d number) ≡ Ok e → IsDraft e
@@ -259,13 +260,17 @@ module _ (d : Draft) (h : IsDraft d) (open_end : d.end ≡ None) where
               let same : with_slot d number (put slot) ≡ e = cc in
               subst IsDraft same (slot_valid number (put slot) (keeps slot (h.slots.each number slot here)))
 
+  stub_valid : (number stub : ℕ) (e : Draft) → stub ≤ longest_stub → stub_after d number stub ≡ Ok e → IsDraft e
+  stub_valid number stub e range is = once_valid number (λ s. s.stub) (λ s. record s { stub = Some stub }) e
+      (λ slot old. record { id = old.id; place = old.place; stub = λ u f. (let now : stub ≡ u = cc in subst (λ k. k ≤ longest_stub) now range); to = old.to; start = old.start; few_draws = old.few_draws; draws = old.draws }) is
+
   late_valid : (number start : ℕ) (e : Draft) → start ≤ most_ticks → late_after d number start ≡ Ok e → IsDraft e
   late_valid number start e range is = once_valid number (λ s. s.start) (λ s. record s { start = Some start }) e
-      (λ slot old. record { id = old.id; place = old.place; to = old.to; start = λ t f. (let now : start ≡ t = cc in subst (λ k. k ≤ most_ticks) now range); few_draws = old.few_draws; draws = old.draws }) is
+      (λ slot old. record { id = old.id; place = old.place; stub = old.stub; to = old.to; start = λ t f. (let now : start ≡ t = cc in subst (λ k. k ≤ most_ticks) now range); few_draws = old.few_draws; draws = old.draws }) is
 
   timer_valid : (number to : ℕ) (e : Draft) → (16 ≤ to) × (to ≤ 255) → timer_after d number to ≡ Ok e → IsDraft e
   timer_valid number to e range is = once_valid number (λ s. s.to) (λ s. record s { to = Some to }) e
-      (λ slot old. record { id = old.id; place = old.place; to = λ n f. (let now : to ≡ n = cc in subst (λ k. (16 ≤ k) × (k ≤ 255)) now range); start = old.start; few_draws = old.few_draws; draws = old.draws }) is
+      (λ slot old. record { id = old.id; place = old.place; stub = old.stub; to = λ n f. (let now : to ≡ n = cc in subst (λ k. (16 ≤ k) × (k ≤ 255)) now range); start = old.start; few_draws = old.few_draws; draws = old.draws }) is
 
   draw_valid : (number draw : ℕ) (e : Draft) → (number ≤ last_node) × (draw ≤ last_draw) → draw_after d number draw ≡ Ok e → IsDraft e
   draw_valid number draw e range is = at (slot_at d number) refl is
@@ -285,6 +290,7 @@ module _ (d : Draft) (h : IsDraft d) (open_end : d.end ≡ None) where
               subst IsDraft same (slot_valid number (record slot { draws = slot.draws ++ draw ∷ [] }) (record {
                 id = old.id;
                 place = old.place;
+                stub = old.stub;
                 to = old.to;
                 start = old.start;
                 few_draws = omega (arith, length-append slot.draws (draw ∷ []));
@@ -338,6 +344,7 @@ module _ (d : Draft) (h : IsDraft d) (open_end : d.end ≡ None) where
   line_valid (Set w m) e range is = set_valid w m e range is
   line_valid (Seed m) e range is = seed_valid m e range is
   line_valid (Node number id place) e range is = node_valid number id place e range is
+  line_valid (Stub number stub) e range is = stub_valid number stub e range.1 is
   line_valid (Late number start) e range is = late_valid number start e range.1 is
   line_valid (ToNode number to) e range is = timer_valid number to e (range.1, range.2) is
   line_valid (Draw number draw) e range is = draw_valid number draw e range is
@@ -359,6 +366,7 @@ draft_valid d (Ok Skipped) e h range is = let same : d ≡ e = cc in subst IsDra
 draft_valid d (Ok (Set w m)) e h range is = unskipped_valid d d.end (Set w m) e h refl (range (Set w m) refl) is
 draft_valid d (Ok (Seed m)) e h range is = unskipped_valid d d.end (Seed m) e h refl (range (Seed m) refl) is
 draft_valid d (Ok (Node number id place)) e h range is = unskipped_valid d d.end (Node number id place) e h refl (range (Node number id place) refl) is
+draft_valid d (Ok (Stub number stub)) e h range is = unskipped_valid d d.end (Stub number stub) e h refl (range (Stub number stub) refl) is
 draft_valid d (Ok (Late number start)) e h range is = unskipped_valid d d.end (Late number start) e h refl (range (Late number start) refl) is
 draft_valid d (Ok (ToNode number to)) e h range is = unskipped_valid d d.end (ToNode number to) e h refl (range (ToNode number to) refl) is
 draft_valid d (Ok (Draw number draw)) e h range is = unskipped_valid d d.end (Draw number draw) e h refl (range (Draw number draw) refl) is
@@ -421,27 +429,27 @@ script_valid d last h is =
       acts = acts_valid (value_in d.settings To) last (length d.acts) d.latest d.slots d.acts h.acts.few end.3 h.acts.each;
     }
 
-reading_valid : (number : ℕ) (x : Result Draft ScriptReason) (lines : List (List ℕ)) (s : Script) → ((d : Draft) → x ≡ Ok d → IsDraft d) → reading_from number x (map parsed_line lines) ≡ Ok s → IsScript s
-reading_valid number (Err reason) lines s h is = go lines is
+reading_valid : (version : Version) (number : ℕ) (x : Result Draft ScriptReason) (lines : List (List ℕ)) (s : Script) → ((d : Draft) → x ≡ Ok d → IsDraft d) → reading_from number x (map (parsed_line version) lines) ≡ Ok s → IsScript s
+reading_valid version number (Err reason) lines s h is = go lines is
   where
-    go : (lines : List (List ℕ)) → reading_from number (Err reason) (map parsed_line lines) ≡ Ok s → IsScript s
+    go : (lines : List (List ℕ)) → reading_from number (Err reason) (map (parsed_line version) lines) ≡ Ok s → IsScript s
     go [] is = cc
     go (line ∷ lines) is = cc
-reading_valid number (Ok d) [] s h is = go d.end refl is
+reading_valid version number (Ok d) [] s h is = go d.end refl is
   where
     go : (o : Option ℕ) → d.end ≡ o → script_at (number + 1) d o ≡ Ok s → IsScript s
     go None here is = cc
     go (Some last) here is = let same : script_with d last ≡ s = cc in subst IsScript same (script_valid d last (h d refl) here)
-reading_valid number (Ok d) (line ∷ lines) s h is =
-    reading_valid (number + 1) (draft_after d (parsed_line line)) lines s (λ e after. draft_valid d (parsed_line line) e (h d refl) (parsed_line_range line) after) is
+reading_valid version number (Ok d) (line ∷ lines) s h is =
+    reading_valid version (number + 1) (draft_after d (parsed_line version line)) lines s (λ e after. draft_valid d (parsed_line version line) e (h d refl) (parsed_line_range version line) after) is
 
 lines_valid : (lines : List (List ℕ)) (s : Script) → script_in lines ≡ Ok s → IsScript s
 lines_valid [] s is = cc
-lines_valid (first ∷ lines) s is = go (bytes_eq first (codes "t1s 1")) is
+lines_valid (first ∷ lines) s is = go (version_of first) is
   where
-    go : (b : Bool) → cond b (script_after_first (map parsed_line lines)) (refused_at 1 FirstLine) ≡ Ok s → IsScript s
-    go true is = reading_valid 1 (Ok draft_start) lines s (λ d same. (let here : draft_start ≡ d = cc in subst IsDraft here start_valid)) (by_drafts lines ∙ is)
-    go false is = cc
+    go : (o : Option Version) → script_with_version o lines ≡ Ok s → IsScript s
+    go (Some version) is = reading_valid version 1 (Ok draft_start) lines s (λ d same. (let here : draft_start ≡ d = cc in subst IsDraft here start_valid)) (by_drafts version lines ∙ is)
+    go None is = cc
 
 pub read_valid : ReadScriptsAreValid
 read_valid octets s is = go (ltb 1048576 (length octets)) is

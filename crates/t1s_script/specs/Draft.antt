@@ -26,7 +26,7 @@ use Rattle.t1s_script.specs.declared.script.Script.{Script}
 use Rattle.t1s_script.specs.declared.words.Setting.{Setting}
 use Rattle.t1s_script.specs.declared.words.Setting.TheVariants.{Count, To, Rise, Fall, Burst, Room}
 use Rattle.t1s_script.specs.declared.words.ScriptLine.{ScriptLine}
-use Rattle.t1s_script.specs.declared.words.ScriptLine.TheVariants.{Skipped, Set, Seed, Node, Late, ToNode, Draw, Offer, Noise, End}
+use Rattle.t1s_script.specs.declared.words.ScriptLine.TheVariants.{Skipped, Set, Seed, Node, Stub, Late, ToNode, Draw, Offer, Noise, End}
 
 -- ---- the settings
 
@@ -79,7 +79,7 @@ seed_after d n = if is_some d.seed then Err Twice else Ok (record d { seed = Som
 
 -- the slot of a node of which nothing but its `node` line stood
 abbrev pub new_slot : ℕ → ℕ → Slot
-new_slot id place = record { id = id; place = place; to = None; start = None; draws = [] }
+new_slot id place = record { id = id; place = place; stub = None; to = None; start = None; draws = [] }
 
 abbrev pub node_after : Draft → ℕ → ℕ → ℕ → Result Draft ScriptReason
 node_after d number id place =
@@ -89,6 +89,10 @@ node_after d number id place =
 abbrev pub once_in_slot : Draft → ℕ → (Slot → Option ℕ) → (Slot → Slot) → Option Slot → Result Draft ScriptReason
 once_in_slot d number stood put (Some slot) = if is_some (stood slot) then Err Twice else Ok (with_slot d number (put slot))
 once_in_slot d number stood put None = Err UnknownNode
+
+abbrev pub stub_after : Draft → ℕ → ℕ → Result Draft ScriptReason
+stub_after d number stub =
+    once_in_slot d number (λ (slot : Slot). slot.stub) (λ (slot : Slot). record slot { stub = Some stub }) (slot_at d number)
 
 abbrev pub late_after : Draft → ℕ → ℕ → Result Draft ScriptReason
 late_after d number start =
@@ -134,6 +138,7 @@ line_after d Skipped = Ok d
 line_after d (Set w n) = set_after d w n
 line_after d (Seed n) = seed_after d n
 line_after d (Node number id place) = node_after d number id place
+line_after d (Stub number stub) = stub_after d number stub
 line_after d (Late number start) = late_after d number start
 line_after d (ToNode number to) = timer_after d number to
 line_after d (Draw number draw) = draw_after d number draw
@@ -166,9 +171,10 @@ fault_at number (Memory error) = NoMemory error
 
 -- ---- the script that the lines give
 
--- the node of a slot: without a `tonode` line the script's `to` is its timer, and without a `late` line it starts at tick 0
+-- the node of a slot: without a `stub` line it has no stub, without a `tonode` line the script's `to` is its timer, and
+-- without a `late` line it starts at tick 0
 abbrev pub node_of : ℕ → ℕ → Slot → NodeLine
-node_of to number slot = record { no = number; id = slot.id; place = slot.place; to = unwrap_or slot.to to; start = unwrap_or slot.start 0; draws = draw_list slot.draws }
+node_of to number slot = record { no = number; id = slot.id; place = slot.place; stub = unwrap_or slot.stub 0; to = unwrap_or slot.to to; start = unwrap_or slot.start 0; draws = draw_list slot.draws }
 
 -- the nodes in ascending number, where the first of these slots is that of that number
 abbrev pub nodes_from : ℕ → ℕ → List (Option Slot) → List NodeLine

@@ -1,28 +1,13 @@
--- Fit scripts: the premises on which the promises of the shared line stand, the span, and the number that is
--- written as the bound of a start.
-use Rattle.std.specs.Prelude.{ℕ, Bool, true, false, ◌+◌, ◌*◌, ◌≡◌, ◌≢◌, ◌<◌, ◌≤◌, ◌==◌, not, List, [], ◌∷◌, ◌++◌, max, find, slice_get, count_by, nat_lt, nat_le, Option, Some, None, Result, Ok, Err, All, if◌then◌else◌}
-use Rattle.std.specs.Int.{abs_diff}
+-- Fit scripts: the premises on which the promises of the shared line stand, and the number that is written as
+-- the bound of a start.
+use Rattle.std.specs.Prelude.{ℕ, Bool, true, false, ◌+◌, ◌*◌, ◌≡◌, ◌≢◌, ◌<◌, ◌≤◌, ◌==◌, not, List, [], ◌∷◌, ◌++◌, find, slice_get, count_by, nat_lt, nat_le, Option, Some, None, Result, Ok, Err, All, if◌then◌else◌}
 use Rattle.t1s_script.specs.declared.fitness.Unfit.{Unfit}
 use Rattle.t1s_script.specs.declared.script.Act.{Act}
 use Rattle.t1s_script.specs.declared.script.Deed.{Deed}
 use Rattle.t1s_script.specs.declared.script.Deed.TheVariants.{Offer, Noise}
 use Rattle.t1s_script.specs.declared.script.NodeLine.{NodeLine}
 use Rattle.t1s_script.specs.declared.script.Script.{Script}
-
--- ---- the span
-
--- the greatest distance of place x from one of these places, in whole bit times; 0 where there is none
-abbrev pub farthest : ℕ → List NodeLine → ℕ
-farthest x [] = 0
-farthest x (n ∷ ns) = max (abs_diff x n.place) (farthest x ns)
-
--- the greatest distance of two of these nodes; 0 where there are fewer than two
-abbrev pub widest : List NodeLine → ℕ
-widest [] = 0
-widest (n ∷ ns) = max (farthest n.place ns) (widest ns)
-
-abbrev pub span_of : Script → ℕ
-span_of s = widest s.nodes
+use Rattle.t1s_script.specs.Taps.{span_of}
 
 -- ---- the number that is written as the bound of a start, in ticks
 

@@ -1,12 +1,14 @@
 pub mod Lines
 pub mod Settings
 pub mod Limits
+pub mod Versions
 pub mod FrameTexts
 pub mod ParsedLine
 pub mod Values
 pub mod Rules
 pub mod Ranges
 pub mod Script
+pub mod Taps
 pub mod Reading
 pub mod Draft
 pub mod ThinForm

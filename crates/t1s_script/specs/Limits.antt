@@ -13,6 +13,14 @@ most_draws = 64
 abbrev pub last_draw : ℕ
 last_draw = 1023
 
+-- the longest stub, in whole bit times
+abbrev pub longest_stub : ℕ
+longest_stub = 31
+
+-- the greatest distance of two nodes: the whole trunk and two of the longest stubs
+abbrev pub most_span : ℕ
+most_span = 317
+
 -- the least and the most octets of a frame without its frame check sequence
 abbrev pub shortest_offer : ℕ
 shortest_offer = 14

@@ -5,22 +5,24 @@ use Rattle.t1s_base.specs.Limits.{last_node, most_ticks}
 use Rattle.t1s_base.specs.Numbers.{number_of}
 use Rattle.t1s_script.specs.Lines.{fields_of}
 use Rattle.t1s_script.specs.Settings.{setting_range}
-use Rattle.t1s_script.specs.Limits.{last_draw}
+use Rattle.t1s_script.specs.Limits.{last_draw, longest_stub}
+use Rattle.t1s_script.specs.Versions.{has_word}
 use Rattle.t1s_script.specs.FrameTexts.{hex_frame, fill_frame}
 use Rattle.t1s_script.specs.declared.refusals.ScriptReason.{ScriptReason}
 use Rattle.t1s_script.specs.declared.refusals.ScriptReason.TheVariants.{UnknownWord, Form, Number, OutOfRange}
+use Rattle.t1s_script.specs.declared.versions.Version.{Version}
 use Rattle.t1s_script.specs.declared.words.Range.{Range}
 use Rattle.t1s_script.specs.declared.words.Setting.TheVariants.{Count, To, Rise, Fall, Burst, Room}
 use Rattle.t1s_script.specs.declared.words.Word.{Word}
-use Rattle.t1s_script.specs.declared.words.Word.TheVariants.{Set as SetWord, Seed as SeedWord, Node as NodeWord, Late as LateWord, ToNode as ToNodeWord, Draw as DrawWord, Offer as OfferWord, Fill as FillWord, Noise as NoiseWord, End as EndWord}
+use Rattle.t1s_script.specs.declared.words.Word.TheVariants.{Set as SetWord, Seed as SeedWord, Node as NodeWord, Stub as StubWord, Late as LateWord, ToNode as ToNodeWord, Draw as DrawWord, Offer as OfferWord, Fill as FillWord, Noise as NoiseWord, End as EndWord}
 use Rattle.t1s_script.specs.declared.words.ScriptLine.{ScriptLine}
-use Rattle.t1s_script.specs.declared.words.ScriptLine.TheVariants.{Skipped, Set, Seed, Node, Late, ToNode, Draw, Offer, Noise, End}
+use Rattle.t1s_script.specs.declared.words.ScriptLine.TheVariants.{Skipped, Set, Seed, Node, Stub, Late, ToNode, Draw, Offer, Noise, End}
 
 -- what a line says, or the first reason of the table for which it is refused by itself
 abbrev pub ParsedLine : Type 0
 ParsedLine = Result ScriptLine ScriptReason
 
--- the word that a field is
+-- the word that a field is, of whatever version
 abbrev pub word_of : List ℕ → Option Word
 word_of field =
     if bytes_eq field (codes "count") then Some (SetWord Count)
@@ -31,6 +33,7 @@ word_of field =
     else if bytes_eq field (codes "room") then Some (SetWord Room)
     else if bytes_eq field (codes "seed") then Some SeedWord
     else if bytes_eq field (codes "node") then Some NodeWord
+    else if bytes_eq field (codes "stub") then Some StubWord
     else if bytes_eq field (codes "late") then Some LateWord
     else if bytes_eq field (codes "tonode") then Some ToNodeWord
     else if bytes_eq field (codes "draw") then Some DrawWord
@@ -39,6 +42,15 @@ word_of field =
     else if bytes_eq field (codes "noise") then Some NoiseWord
     else if bytes_eq field (codes "end") then Some EndWord
     else None
+
+-- a word, where it is one of those of that version
+abbrev pub word_known : Version → Option Word → Option Word
+word_known version (Some word) = if has_word version word then Some word else None
+word_known version None = None
+
+-- the word of that version that a field is
+abbrev pub word_in : Version → List ℕ → Option Word
+word_in version field = word_known version (word_of field)
 
 -- ---- the fields of a line: as many as the word takes, then each number is one, and then each lies in its range
 
@@ -119,6 +131,7 @@ abbrev pub line_by_word : Option Word → List (List ℕ) → ParsedLine
 line_by_word (Some (SetWord w)) fields = says (λ n. Set w n) (one_number (setting_range w) fields)
 line_by_word (Some SeedWord) fields = says (λ n. Seed n) (one_number (up_to 4294967295) fields)
 line_by_word (Some NodeWord) fields = says (λ n. Node n.0 n.1 n.2) (three_numbers (up_to last_node) (up_to 255) (up_to 255) fields)
+line_by_word (Some StubWord) fields = says (λ n. Stub n.0 n.1) (two_numbers (up_to last_node) (up_to longest_stub) fields)
 line_by_word (Some LateWord) fields = says (λ n. Late n.0 n.1) (two_numbers (up_to last_node) (up_to most_ticks) fields)
 line_by_word (Some ToNodeWord) fields = says (λ n. ToNode n.0 n.1) (two_numbers (up_to last_node) (setting_range To) fields)
 line_by_word (Some DrawWord) fields = says (λ n. Draw n.0 n.1) (two_numbers (up_to last_node) (up_to last_draw) fields)
@@ -130,15 +143,15 @@ line_by_word None fields = Err UnknownWord
 
 -- ---- whole lines
 
-abbrev pub line_in : List (List ℕ) → ParsedLine
-line_in [] = Err UnknownWord
-line_in (first ∷ fields) = line_by_word (word_of first) fields
+abbrev pub line_in : Version → List (List ℕ) → ParsedLine
+line_in version [] = Err UnknownWord
+line_in version (first ∷ fields) = line_by_word (word_in version first) fields
 
 -- a line that begins with `#` is skipped
 abbrev pub is_skipped : List ℕ → Bool
 is_skipped [] = false
 is_skipped (octet ∷ rest) = octet == 35
 
--- what a line after the first says
-abbrev pub parsed_line : List ℕ → ParsedLine
-parsed_line line = if is_skipped line then Ok Skipped else line_in (fields_of line)
+-- what a line after the first says, in a script of that version
+abbrev pub parsed_line : Version → List ℕ → ParsedLine
+parsed_line version line = if is_skipped line then Ok Skipped else line_in version (fields_of line)

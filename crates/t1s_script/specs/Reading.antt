@@ -1,12 +1,12 @@
 -- What the octets of a script give, said over the list of all its lines: the script, or the first line that
 -- breaks a rule and the first reason of the table for it.
-use Rattle.std.specs.Prelude.{ℕ, ◌+◌, List, [], ◌∷◌, length, map, take, flat_map, None, Some, filter_map, nat_lt, codes, Option, option_map, Result, Ok, Err, ⊤, ◌≡◌, if◌then◌else◌}
+use Rattle.std.specs.Prelude.{ℕ, ◌+◌, List, [], ◌∷◌, length, map, take, flat_map, None, Some, filter_map, nat_lt, Option, option_map, Result, Ok, Err, ⊤, ◌≡◌, if◌then◌else◌}
 use Rattle.std.specs.List.{enumerate_from, range_with_len}
-use Rattle.std.specs.Str.{bytes_eq}
 use Rattle.t1s_base.specs.Limits.{most_nodes}
 use Rattle.t1s_script.specs.Lines.{lines_of}
 use Rattle.t1s_script.specs.ParsedLine.{ParsedLine, parsed_line}
-use Rattle.t1s_script.specs.Values.{seed_from, node_for, start_for, timer_for, draw_for, offer_from, end_from, first_given, setting_of}
+use Rattle.t1s_script.specs.Versions.{version_of}
+use Rattle.t1s_script.specs.Values.{seed_from, node_for, stub_for, start_for, timer_for, draw_for, offer_from, end_from, first_given, setting_of}
 use Rattle.t1s_script.specs.Rules.{reason_of}
 use Rattle.t1s_script.specs.Script.{IsScript}
 use Rattle.t1s_script.specs.declared.refusals.ScriptReason.{ScriptReason}
@@ -19,6 +19,7 @@ use Rattle.t1s_script.specs.declared.script.Deed.{Deed}
 use Rattle.t1s_script.specs.declared.script.Deed.TheVariants.{Offer, Noise}
 use Rattle.t1s_script.specs.declared.script.NodeLine.{NodeLine}
 use Rattle.t1s_script.specs.declared.script.Script.{Script}
+use Rattle.t1s_script.specs.declared.versions.Version.{Version}
 use Rattle.t1s_script.specs.declared.words.Setting.TheVariants.{Count, To, Rise, Fall, Burst, Room}
 use Rattle.t1s_script.specs.declared.words.ScriptLine.TheVariants.{Offer as OfferLine, Noise as NoiseLine}
 
@@ -29,13 +30,14 @@ abbrev pub draw_list : List ℕ → Option (List ℕ)
 draw_list [] = None
 draw_list (draw ∷ draws) = Some (draw ∷ draws)
 
--- the node of that number, as its `node` line names it: without a `tonode` line its timer is that of the script,
--- and without a `late` line it starts at tick 0
+-- the node of that number, as its `node` line names it: without a `stub` line it has no stub, without a `tonode` line
+-- its timer is that of the script, and without a `late` line it starts at tick 0
 abbrev pub node_of_line : List ParsedLine → ℕ → ℕ × ℕ → NodeLine
 node_of_line lines number line = record {
   no = number;
   id = line.0;
   place = line.1;
+  stub = first_given (stub_for number) lines 0;
   to = first_given (timer_for number) lines (setting_of To lines);
   start = first_given (start_for number) lines 0;
   draws = draw_list (filter_map (draw_for number) lines);
@@ -110,9 +112,14 @@ first_refusal_or (refusal ∷ further) answer = Err refusal
 abbrev pub script_after_first : List ParsedLine → Result Script ScriptRefusal
 script_after_first lines = first_refusal_or (refusals_of lines) (script_by lines (filter_map end_from lines))
 
+-- the lines after one that names this version, or none
+abbrev pub script_with_version : Option Version → List (List ℕ) → Result Script ScriptRefusal
+script_with_version (Some version) lines = script_after_first (map (parsed_line version) lines)
+script_with_version None lines = refused_at 1 FirstLine
+
 abbrev pub script_in : List (List ℕ) → Result Script ScriptRefusal
 script_in [] = refused_at 1 FirstLine
-script_in (first ∷ lines) = if bytes_eq first (codes "t1s 1") then script_after_first (map parsed_line lines) else refused_at 1 FirstLine
+script_in (first ∷ lines) = script_with_version (version_of first) lines
 
 -- what the octets of a script give: the script, or the refused line and the reason
 abbrev pub script_of : List ℕ → Result Script ScriptRefusal

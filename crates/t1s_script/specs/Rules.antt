@@ -4,11 +4,11 @@ use Rattle.std.specs.Prelude.{ℕ, Bool, false, not, List, length, filter_map, n
 use Rattle.std.specs.List.{list_any}
 use Rattle.t1s_script.specs.ParsedLine.{ParsedLine}
 use Rattle.t1s_script.specs.Limits.{most_acts, most_draws}
-use Rattle.t1s_script.specs.Values.{number_for, seed_from, node_for, start_for, timer_for, draw_for, tick_from, latest_tick, end_from, is_node, some_gives}
+use Rattle.t1s_script.specs.Values.{number_for, seed_from, node_for, stub_for, start_for, timer_for, draw_for, tick_from, latest_tick, end_from, is_node, some_gives}
 use Rattle.t1s_script.specs.declared.refusals.ScriptReason.{ScriptReason}
 use Rattle.t1s_script.specs.declared.refusals.ScriptReason.TheVariants.{AfterEnd, Twice, UnknownNode, Order, TooMany, NoNode}
 use Rattle.t1s_script.specs.declared.words.ScriptLine.{ScriptLine}
-use Rattle.t1s_script.specs.declared.words.ScriptLine.TheVariants.{Skipped, Set, Seed, Node, Late, ToNode, Draw, Offer, Noise, End}
+use Rattle.t1s_script.specs.declared.words.ScriptLine.TheVariants.{Skipped, Set, Seed, Node, Stub, Late, ToNode, Draw, Offer, Noise, End}
 
 -- ---- the table: how often a line may stand, and what stands above it
 
@@ -47,6 +47,7 @@ row_of Skipped = row None None Nothing Anywhere
 row_of (Set w n) = row (once (number_for w)) None Nothing Anywhere
 row_of (Seed n) = row (once seed_from) None Nothing Anywhere
 row_of (Node number id place) = row (once (node_for number)) None Nothing Anywhere
+row_of (Stub number stub) = row (once (stub_for number)) None (NodeOf number) Anywhere
 row_of (Late number start) = row (once (start_for number)) None (NodeOf number) Anywhere
 row_of (ToNode number to) = row (once (timer_for number)) None (NodeOf number) Anywhere
 row_of (Draw number draw) = row None (at_most most_draws (draw_for number)) (NodeOf number) Anywhere

@@ -3,7 +3,7 @@ use Rattle.std.specs.Prelude.{ℕ, ◌<◌, ◌≤◌, ⊤, List, length, map, f
 use Rattle.std.specs.List.Sorted.{IsNonDecreasing, IsStrictlyIncreasing}
 use Rattle.t1s_base.specs.Limits.{most_nodes, last_node, most_ticks}
 use Rattle.t1s_frame.specs.Frame.{IsFrame}
-use Rattle.t1s_script.specs.Limits.{most_acts, most_draws, last_draw}
+use Rattle.t1s_script.specs.Limits.{most_acts, most_draws, last_draw, longest_stub}
 use Rattle.t1s_script.specs.declared.script.Script.{Script}
 use Rattle.t1s_script.specs.declared.script.Act.{Act}
 use Rattle.t1s_script.specs.declared.script.Deed.{Deed}
@@ -20,6 +20,7 @@ pub record IsNodeLine (n : NodeLine) : Type 0 where
   pub no_high : n.no ≤ last_node
   pub id_high : n.id ≤ 255
   pub place_high : n.place ≤ 255
+  pub stub_high : n.stub ≤ longest_stub
   pub to_low : 16 ≤ n.to
   pub to_high : n.to ≤ 255
   pub start_high : n.start ≤ most_ticks

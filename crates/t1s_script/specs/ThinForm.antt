@@ -7,6 +7,7 @@ use Rattle.t1s_script.specs.ParsedLine.{ParsedLine, parsed_line}
 use Rattle.t1s_script.specs.Reading.{script_of}
 use Rattle.t1s_script.specs.declared.script.NodeLine.{NodeLine}
 use Rattle.t1s_script.specs.declared.script.Script.{Script}
+use Rattle.t1s_script.specs.declared.versions.Version.TheVariants.{V1}
 use Rattle.t1s_script.specs.declared.words.Setting.TheVariants.{Count}
 use Rattle.t1s_script.specs.declared.words.ScriptLine.TheVariants.{Set, Node, End}
 
@@ -28,14 +29,15 @@ are_thin _ = false
 
 abbrev pub have_thin_form : List (List ℕ) → Bool
 have_thin_form [] = false
-have_thin_form (first ∷ lines) = bytes_eq first (codes "t1s 1") && are_thin (map parsed_line lines)
+have_thin_form (first ∷ lines) = bytes_eq first (codes "t1s 1") && are_thin (map (parsed_line V1) lines)
 
 -- the octets of a script have the thin form
 abbrev pub has_thin_form : List ℕ → Bool
 has_thin_form octets = nat_le (length octets) 1048576 && have_thin_form (lines_of octets)
 
--- a node with the default timer that starts at once and has no list of draws
+-- a node without a stub, with the default timer, that starts at once and has no list of draws
 pub record IsThinNode (n : NodeLine) : Type 0 where
+  pub stub : n.stub ≡ 0
   pub to : n.to ≡ 32
   pub start : n.start ≡ 0
   pub draws : n.draws ≡ None

@@ -5,7 +5,7 @@ use Rattle.t1s_script.specs.Settings.{default_of}
 use Rattle.t1s_script.specs.ParsedLine.{ParsedLine}
 use Rattle.t1s_script.specs.declared.words.Setting.{Setting}
 use Rattle.t1s_script.specs.declared.words.Setting.TheVariants.{Count, To, Rise, Fall, Burst, Room}
-use Rattle.t1s_script.specs.declared.words.ScriptLine.TheVariants.{Set, Seed, Node, Late, ToNode, Draw, Offer, Noise, End}
+use Rattle.t1s_script.specs.declared.words.ScriptLine.TheVariants.{Set, Seed, Node, Stub, Late, ToNode, Draw, Offer, Noise, End}
 
 -- ---- one line
 
@@ -32,6 +32,11 @@ seed_from _ = None
 abbrev pub node_for : ℕ → ParsedLine → Option (ℕ × ℕ)
 node_for number (Ok (Node other id place)) = if other == number then Some (id, place) else None
 node_for number _ = None
+
+-- the length of a `stub` line of that number
+abbrev pub stub_for : ℕ → ParsedLine → Option ℕ
+stub_for number (Ok (Stub other length)) = if other == number then Some length else None
+stub_for number _ = None
 
 -- the tick of a `late` line of that number
 abbrev pub start_for : ℕ → ParsedLine → Option ℕ

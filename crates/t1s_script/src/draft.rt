@@ -3,7 +3,7 @@ ghost use Rattle.std.specs.Prelude.{◌≡◌, ◌≤◌, Ok, Err, IfOk, MatchRe
 ghost use Rattle.std.specs.List.{list_any};
 ghost use Rattle.std.specs.Result.{ForOk};
 ghost use Rattle.t1s_base.specs.Limits.{last_node};
-ghost use Rattle.t1s_script.specs.Draft.{IsTaken, draft_after, draft_start, draw_after, end_after, given, late_after, line_after, no_settings, node_after, node_of, nodes_from, offer_after, script_with, seed_after, set_after, slot_at, timed_after, timer_after, value_in, with_given, with_slot};
+ghost use Rattle.t1s_script.specs.Draft.{IsTaken, draft_after, draft_start, draw_after, end_after, given, late_after, line_after, no_settings, node_after, node_of, nodes_from, offer_after, script_with, seed_after, set_after, slot_at, stub_after, timed_after, timer_after, value_in, with_given, with_slot};
 ghost use Rattle.t1s_script.specs.Ranges.{HasSlot};
 
 use crate::kept_acts::KeptActs;
@@ -94,6 +94,8 @@ impl Settings {
 pub struct Slot {
     pub id: u8,
     pub place: u8,
+    /// The length of its `stub` line.
+    pub stub: Option<u8>,
     /// The timer of its `tonode` line.
     pub to: Option<u8>,
     /// The tick of its `late` line.
@@ -112,6 +114,7 @@ impl Slot {
             no,
             id: self.id,
             place: self.place,
+            stub: self.stub.unwrap_or(0),
             to: self.to.unwrap_or(to),
             start: self.start.unwrap_or(0),
             draws: is_listed.then_some(self.draws),
@@ -197,11 +200,27 @@ impl Draft {
         self.slots[usize::from(no)] = Some(Slot {
             id,
             place,
+            stub: None,
             to: None,
             start: None,
             draws: DrawList::none(alloc),
         });
         Ok(())
+    }
+
+    /// A `stub` line.
+    fn take_stub(&mut self, no: u8, stub: u8) -> Result<(), ScriptReason>
+        requires { no ≤ last_node }
+        ensures { MatchResult result (λ _. stub_after self.old no stub ≡ Ok self.new) (λ reason. stub_after self.old no stub ≡ Err reason) }
+    {
+        match &mut self.slots[usize::from(no)] {
+            None => Err(ScriptReason::UnknownNode),
+            Some(slot) if slot.stub.is_some() => Err(ScriptReason::Twice),
+            Some(slot) => {
+                slot.stub = Some(stub);
+                Ok(())
+            }
+        }
     }
 
     /// A `late` line.
@@ -303,6 +322,7 @@ impl Draft {
             ScriptLine::Set(setting, number) => Ok(self.take_setting(setting, number)?),
             ScriptLine::Seed(seed) => Ok(self.take_seed(seed)?),
             ScriptLine::Node { no, id, place } => Ok(self.take_node(alloc, no, id, place)?),
+            ScriptLine::Stub { no, stub } => Ok(self.take_stub(no, stub)?),
             ScriptLine::Late { no, start } => Ok(self.take_late(no, start)?),
             ScriptLine::ToNode { no, to } => Ok(self.take_timer(no, to)?),
             ScriptLine::Draw { no, draw } => self.take_draw(no, draw),

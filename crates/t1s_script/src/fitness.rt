@@ -1,9 +1,14 @@
 //! Which scripts are fit, how wide a segment is, and the number that is written as the bound of a start.
-ghost use Rattle.std.specs.Prelude.{◌≡◌, ◌≤◌, ◌↔◌, ◌==◌, Err, IsOk, find, nat_le, not, option_map};
+ghost use Rattle.std.specs.Prelude.{◌≡◌, ◌≤◌, ◌↔◌, ◌==◌, Err, IsOk, find, map, nat_le, not, option_map};
 ghost use Rattle.t1s_script.specs.declared.script.NodeLine.{NodeLine};
-ghost use Rattle.t1s_script.specs.Fit.{IsFit, farthest, fitness_of, longest_opportunity, span_of, start_bound, unmet, with_high_id, with_long_bursts, with_long_cable, with_noise, with_other_timer, with_repeat, without_one_coordinator};
+ghost use Rattle.t1s_harness.specs.Distances.{farthest, span};
+ghost use Rattle.t1s_script.specs.Limits.{most_span};
+ghost use Rattle.t1s_script.specs.Script.{IsScript};
+ghost use Rattle.t1s_script.specs.Taps.{span_of, tap_of};
+ghost use Rattle.t1s_script.specs.Fit.{IsFit, fitness_of, longest_opportunity, start_bound, unmet, with_high_id, with_long_bursts, with_long_cable, with_noise, with_other_timer, with_repeat, without_one_coordinator};
 
 use crate::script::{Act, Deed, NodeLine, Script};
+use t1s_harness::{Tap, between};
 
 /// What the bound counts for a frame of a drive, in ticks.
 const LONGEST_FRAME: u64 = 12_384;
@@ -36,13 +41,13 @@ pub struct Unfit {
     pub right: u64,
 }
 
-/// The greatest distance of a place from one of the nodes.
-fn farthest(place: u8, nodes: &[NodeLine]) -> u8
-    ensures { result ≡ farthest place nodes.now }
+/// The greatest distance of a tap from one of the nodes, in whole bit times.
+fn farthest(tap: &Tap, nodes: &[NodeLine]) -> u16
+    ensures { result ≡ farthest tap.now (map tap_of nodes.now) }
 {
     let mut most = 0;
     for node in nodes {
-        most = place.abs_diff(node.place).max(most);
+        most = between(tap, &node.tap()).max(most);
     }
     most
 }
@@ -55,18 +60,25 @@ fn wide(n: u8) -> u64
     u64::from(n)
 }
 
-/// The span of a script: the greatest distance of two of its nodes in whole bit times, at most 255. It
-/// is 0 where there are fewer than two.
-pub fn span(s: &Script) -> u64
-    ensures value { result ≡ span_of s.now }
-    ensures small { result ≤ 255 }
+/// The greatest distance of two of the nodes, in whole bit times.
+fn widest(nodes: &[NodeLine]) -> u16
+    ensures { result ≡ span (map tap_of nodes.now) }
 {
-    let nodes = s.nodes.as_slice();
     let mut most = 0;
     for i in 0..nodes.len() {
-        most = farthest(nodes[i].place, &nodes[i + 1..]).max(most);
+        most = farthest(&nodes[i].tap(), &nodes[i + 1..]).max(most);
     }
-    wide(most)
+    most
+}
+
+/// The span of a script: the greatest distance of two of its nodes in whole bit times, at most 317 in a
+/// valid script. It is 0 where there are fewer than two.
+pub fn span(s: &Script) -> u64
+    ensures value { result ≡ span_of s.now }
+    ensures narrow { IsScript s.now → result ≤ most_span }
+    ensures small { result ≤ 65535 }
+{
+    u64::from(widest(s.nodes.as_slice()))
 }
 
 /// What the bound counts for an opportunity, in ticks: the timer, a drive, twice the span, `rise` and `fall`.

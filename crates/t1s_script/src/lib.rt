@@ -18,6 +18,7 @@ mod reading;
 mod refusals;
 mod script;
 mod text;
+mod versions;
 mod words;
 
 pub use fitness::{Unfit, bound, fit, span};
@@ -27,5 +28,7 @@ pub use script::{Act, ActList, Deed, DrawList, NodeLine, NodeList, Script};
 
 #[cfg(test)]
 mod frame_tests;
+#[cfg(test)]
+mod stub_tests;
 #[cfg(test)]
 mod tests;

@@ -7,6 +7,7 @@ ghost use Rattle.t1s_script.specs.Ranges.{HasSlot};
 use crate::frame_texts::{fill_frame, hex_frame};
 use crate::refusals::ScriptReason;
 use crate::text::Fields;
+use crate::versions::Version;
 use crate::words::{Range, ScriptLine, Setting, Word, word_in};
 use t1s_base::{LAST_NODE, MOST_TICKS, read_number};
 
@@ -22,6 +23,12 @@ const NODES: Range = Range {
 const OCTETS: Range = Range {
     least: 0,
     greatest: 255,
+};
+
+/// Lengths of stubs.
+const STUBS: Range = Range {
+    least: 0,
+    greatest: 31,
 };
 
 const TICKS: Range = Range {
@@ -213,6 +220,13 @@ fn read_fields(word: Option<Word>, fields: Fields<'_>) -> Result<ScriptLine, Scr
                 place: place as u8,
             }
         }
+        Word::Stub => {
+            let (no, stub) = two_numbers((NODES, STUBS), fields)?;
+            ScriptLine::Stub {
+                no: no as u8,
+                stub: stub as u8,
+            }
+        }
         Word::Late => {
             let (no, start) = two_numbers((NODES, TICKS), fields)?;
             ScriptLine::Late {
@@ -242,13 +256,13 @@ fn read_fields(word: Option<Word>, fields: Fields<'_>) -> Result<ScriptLine, Scr
 }
 
 /// What a line that isn't skipped says.
-fn read_words(line: &[u8]) -> Result<ScriptLine, ScriptReason>
-    ensures value { result ≡ line_in (fields_of line.now) }
+fn read_words(version: Version, line: &[u8]) -> Result<ScriptLine, ScriptReason>
+    ensures value { result ≡ line_in version (fields_of line.now) }
     ensures slot { IfOk result HasSlot }
 {
     let mut fields = Fields::of(line);
     let word = fields.next().ok_or(ScriptReason::UnknownWord)?;
-    read_fields(word_in(word), fields)
+    read_fields(word_in(version, word), fields)
 }
 
 /// Whether the line is skipped.
@@ -258,14 +272,14 @@ fn is_skipped(line: &[u8]) -> bool
     matches!(line, [COMMENT, ..])
 }
 
-/// What a line after the first says by itself.
-pub fn read_line(line: &[u8]) -> Result<ScriptLine, ScriptReason>
-    ensures value { result ≡ parsed_line line.now }
+/// What a line after the first says by itself, in a script of that version.
+pub fn read_line(version: Version, line: &[u8]) -> Result<ScriptLine, ScriptReason>
+    ensures value { result ≡ parsed_line version line.now }
     ensures slot { IfOk result HasSlot }
 {
     if is_skipped(line) {
         Ok(ScriptLine::Skipped)
     } else {
-        read_words(line)
+        read_words(version, line)
     }
 }

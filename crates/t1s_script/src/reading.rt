@@ -11,6 +11,7 @@ use crate::parsing::read_line;
 use crate::refusals::{LineFault, ScriptFault, ScriptReason, ScriptRefusal};
 use crate::script::Script;
 use crate::text::Lines;
+use crate::versions::Version;
 use std::alloc::Global;
 
 /// How many octets a script has at most.
@@ -43,14 +44,14 @@ fn finished(alloc: Global, number: u32, draft: Draft) -> Result<Script, ScriptFa
     }
 }
 
-/// Reads the lines after the first.
-fn read_lines(alloc: Global, mut lines: Lines<'_>) -> Result<Script, ScriptFault>
+/// Reads the lines after the first, as those of that version.
+fn read_lines(alloc: Global, version: Version, mut lines: Lines<'_>) -> Result<Script, ScriptFault>
     requires { lines.taken ≡ 1 }
-    ensures { IsAnswer (script_after_first (map parsed_line (lines_of lines.entry.rest.now))) result }
+    ensures { IsAnswer (script_after_first (map (parsed_line version) (lines_of lines.entry.rest.now))) result }
 {
     let mut draft = Draft::start(alloc);
     while let Some(line) = lines.next() {
-        if let Err(fault) = draft.take(alloc, read_line(line)) {
+        if let Err(fault) = draft.take(alloc, read_line(version, line)) {
             return Err(fault_at(lines.taken(), fault));
         }
     }
@@ -68,8 +69,8 @@ pub fn read_script(alloc: Global, bytes: &[u8]) -> Result<Script, ScriptFault>
         return Err(refusal(0, ScriptReason::TooLong));
     }
     let mut lines = Lines::of(bytes);
-    match lines.next() {
-        Some(b"t1s 1") => read_lines(alloc, lines),
-        _ => Err(refusal(1, ScriptReason::FirstLine)),
+    match lines.next().and_then(Version::of) {
+        Some(version) => read_lines(alloc, version, lines),
+        None => Err(refusal(1, ScriptReason::FirstLine)),
     }
 }

@@ -9,11 +9,11 @@ use std::alloc::{AllocError, AllocFailed};
 pub enum ScriptReason {
     /// It has more than 1,048,576 octets. Its line is 0.
     TooLong,
-    /// Its first line isn't `t1s 1`, or it has no line. Its line is 1.
+    /// Its first line is neither `t1s 1` nor `t1s 2`, or it has no line. Its line is 1.
     FirstLine,
     /// A line that isn't skipped stands after `end`.
     AfterEnd,
-    /// A line begins with no known word.
+    /// A line begins with none of the words of the script's version.
     UnknownWord,
     /// A line has not as many fields as its word takes.
     Form,

@@ -1,9 +1,11 @@
 // What a script holds.
 ghost use Rattle.std.specs.Prelude.{◌≡◌, ◌++◌, ◌∷◌, [], MatchResult, OnOk};
+ghost use Rattle.t1s_script.specs.Taps.{tap_of};
 
 use std::alloc::{AllocError, Global};
 use std::marker::Model;
 use t1s_frame::Frame;
+use t1s_harness::Tap;
 
 /// The draws that a script lists for a node, in the order in which backoffs take them.
 #[derive(Drop)]
@@ -56,8 +58,10 @@ pub struct NodeLine {
     pub no: u8,
     /// Its PLCA node ID.
     pub id: u8,
-    /// Its place on the cable, in whole bit times from one end.
+    /// The place on the trunk at which its stub begins, in whole bit times from one end.
     pub place: u8,
+    /// The length of its stub, 0 to 31 whole bit times.
+    pub stub: u8,
     /// Its opportunity timer, 16 to 255 ticks: that of its `tonode` line, else that of the script.
     pub to: u8,
     /// The tick at which it starts, at most [`t1s_base::MOST_TICKS`].
@@ -65,6 +69,18 @@ pub struct NodeLine {
     /// The draws of its backoffs, 0 to 1023 each and at most 64, if the script lists them. Without such a
     /// list the seed gives them.
     pub draws: Option<DrawList>,
+}
+
+impl NodeLine {
+    /// Where it hangs on the pair.
+    pub fn tap(&self) -> Tap
+        ensures { result ≡ tap_of self.now }
+    {
+        Tap {
+            place: self.place,
+            stub: self.stub,
+        }
+    }
 }
 
 /// The nodes of a script, in ascending node number.

@@ -122,7 +122,7 @@ fn longer_texts_are_refused_as_a_whole(rt: HostRuntime) -> Result<(), Fail> {
 }
 
 /// The numbers of a script as a text: its settings, its seed and its end, and those of each node.
-fn numbers_of(alloc: Global, script: &Script) -> Result<String, AllocError> {
+pub fn numbers_of(alloc: Global, script: &Script) -> Result<String, AllocError> {
     let mut text = format!(in alloc;
         "{} {} {} {} {} {} {} {}",
         script.count,
@@ -136,8 +136,8 @@ fn numbers_of(alloc: Global, script: &Script) -> Result<String, AllocError> {
     )?;
     for node in script.nodes.as_slice() {
         let numbers = format!(in alloc;
-            ", {} {} {} {} {}",
-            node.no, node.id, node.place, node.to, node.start
+            ", {} {} {} {} {} {}",
+            node.no, node.id, node.place, node.stub, node.to, node.start
         )?;
         text.push_str(numbers.as_str())?;
     }
@@ -150,12 +150,12 @@ fn settings_hold_for_lines_above_them(rt: HostRuntime) -> Result<(), Fail> {
     let rows = [
         (
             "t1s 1/node 3 1 2/end 2000000",
-            "8 32 4 4 0 8 1 2000000, 3 1 2 32 0",
+            "8 32 4 4 0 8 1 2000000, 3 1 2 0 32 0",
         ),
         (
             "t1s 1/node 15 255 255/late 15 2000000/# a note/node 0 0 0/node 1 7 0/tonode 1 20/seed 4294967295/\
 room 64/burst 255/fall 16/rise 16/to 255/count 254/end 1/# the end/",
-            "254 255 16 16 255 64 4294967295 1, 0 0 0 255 0, 1 7 0 20 0, 15 255 255 255 2000000",
+            "254 255 16 16 255 64 4294967295 1, 0 0 0 0 255 0, 1 7 0 0 20 0, 15 255 255 0 255 2000000",
         ),
     ];
     for (text, want) in rows {
@@ -166,7 +166,7 @@ room 64/burst 255/fall 16/rise 16/to 255/count 254/end 1/# the end/",
 }
 
 /// Whether a script is fit, as a text: the premise that isn't met and its two values.
-fn fitness_of(alloc: Global, script: &Script) -> Result<String, AllocError> {
+pub fn fitness_of(alloc: Global, script: &Script) -> Result<String, AllocError> {
     match fit(script) {
         Ok(()) => String::from_str(alloc, "fit"),
         Err(
@@ -239,6 +239,7 @@ fn wide_script(alloc: Global) -> Result<Script, AllocError> {
         no,
         id,
         place,
+        stub: 255,
         to,
         start: 0,
         draws: None,
@@ -264,6 +265,6 @@ fn the_bound_has_no_condition(rt: HostRuntime) -> Result<(), Fail> {
     let script = wide_script(alloc)?;
     let fitness = fitness_of(alloc, &script)?;
     assert_eq!(rt; fitness.as_str(), "unfit 4 40 255");
-    assert_eq!(rt; (span(&script), bound(&script)), (255, 818_308_930));
+    assert_eq!(rt; (span(&script), bound(&script)), (765, 818_572_090));
     Ok(())
 }

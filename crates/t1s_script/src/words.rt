@@ -1,8 +1,9 @@
 // What a line of a script says.
 ghost use Rattle.std.specs.Prelude.{◌≡◌, ◌≤◌};
 ghost use Rattle.t1s_script.specs.Settings.{default_of, setting_range};
-ghost use Rattle.t1s_script.specs.ParsedLine.{is_within, word_of};
+ghost use Rattle.t1s_script.specs.ParsedLine.{is_within, word_in, word_of};
 
+use crate::versions::Version;
 use t1s_frame::Frame;
 
 /// The numbers that a field takes.
@@ -82,6 +83,7 @@ pub enum Word {
     Set(Setting),
     Seed,
     Node,
+    Stub,
     Late,
     ToNode,
     Draw,
@@ -102,6 +104,8 @@ pub enum ScriptLine {
     Seed(u64),
     /// A node of the segment: its number, its ID and its place.
     Node { no: u8, id: u8, place: u8 },
+    /// The length of the stub of the node of that number, in whole bit times.
+    Stub { no: u8, stub: u8 },
     /// The tick at which the node of that number starts.
     Late { no: u8, start: u64 },
     /// The opportunity timer of the node of that number, in ticks.
@@ -116,8 +120,8 @@ pub enum ScriptLine {
     End(u64),
 }
 
-/// The word that the field is.
-pub fn word_in(field: &[u8]) -> Option<Word>
+/// The word that the field is, of whatever version.
+fn word_of(field: &[u8]) -> Option<Word>
     ensures { result ≡ word_of field.now }
 {
     if field == b"count".as_slice() {
@@ -136,6 +140,8 @@ pub fn word_in(field: &[u8]) -> Option<Word>
         Some(Word::Seed)
     } else if field == b"node".as_slice() {
         Some(Word::Node)
+    } else if field == b"stub".as_slice() {
+        Some(Word::Stub)
     } else if field == b"late".as_slice() {
         Some(Word::Late)
     } else if field == b"tonode".as_slice() {
@@ -150,6 +156,18 @@ pub fn word_in(field: &[u8]) -> Option<Word>
         Some(Word::Noise)
     } else if field == b"end".as_slice() {
         Some(Word::End)
+    } else {
+        None
+    }
+}
+
+/// The word of that version that the field is.
+pub fn word_in(version: Version, field: &[u8]) -> Option<Word>
+    ensures { result ≡ word_in version field.now }
+{
+    let word = word_of(field)?;
+    if version.has_word(word) {
+        Some(word)
     } else {
         None
     }

@@ -4,7 +4,7 @@ use Rattle.std.specs.Prelude.{filter_map}
 use Rattle.std.specs.List.{enumerate_from, range_with_len, cons_option}
 use Rattle.std.proofs.lemmas.List.Elements.{All-cons, All-nil, All-append, All-head, All-tail}
 use Rattle.t1s_script.specs.ParsedLine.{ParsedLine}
-use Rattle.t1s_script.specs.Values.{number_for, timer_for, offer_from, setting_of}
+use Rattle.t1s_script.specs.Values.{number_for, stub_for, timer_for, offer_from, setting_of}
 use Rattle.t1s_script.specs.Reading.{node_of_line, act_below, act_of, acts_of}
 use Rattle.t1s_script.specs.Fit.{is_noise}
 use Rattle.t1s_script.specs.declared.script.Act.{Act}
@@ -45,6 +45,10 @@ module _ (p : Plan) where
 
   pub burst_default : setting_of Burst (said p) ≡ 0
   burst_default = ap (λ ns. get_or ns 0 0) (none_said p (number_for Burst) refl refl (λ k. refl) (λ k. refl) refl)
+
+  -- a node has no stub
+  pub stub_default : (number : ℕ) (line : ℕ × ℕ) → (node_of_line (said p) number line).stub ≡ 0
+  stub_default number line = ap (λ ns. get_or ns 0 0) (none_said p (stub_for number) refl refl (λ k. refl) (λ k. refl) refl)
 
   -- the timer of a node is that of the script
   pub timer_default : (number : ℕ) (line : ℕ × ℕ) → (node_of_line (said p) number line).to ≡ setting_of To (said p)

@@ -4,14 +4,17 @@ use Rattle.std.specs.Prelude.{◌==◌, slice_get}
 use Rattle.std.specs.List.{range_with_len, sum_by}
 use Rattle.std.proofs.lemmas.Bool.Decides.{nat_tests}
 use Rattle.std.proofs.lemmas.List.Sums.{sum_by-cons}
+use Rattle.t1s_harness.specs.Distances.{farthest, span}
+use Rattle.t1s_harness.specs.declared.Tap.{Tap}
 use Rattle.t1s_script.specs.Values.{setting_of}
 use Rattle.t1s_script.specs.Reading.{script_from, nodes_of}
-use Rattle.t1s_script.specs.Fit.{farthest, widest, coordinators, IsFit}
+use Rattle.t1s_script.specs.Fit.{coordinators, IsFit}
+use Rattle.t1s_script.specs.Taps.{tap_of}
 use Rattle.t1s_script.specs.declared.script.NodeLine.{NodeLine}
 use Rattle.t1s_script.specs.declared.words.Setting.TheVariants.{To}
 use Rattle.t1s_generator.proofs.Left.{each_counted}
 use Rattle.t1s_generator.proofs.Plans.{Plan, IsPlan, said}
-use Rattle.t1s_generator.proofs.Defaults.{to_default, rise_default, burst_default, timer_default, all_offers}
+use Rattle.t1s_generator.proofs.Defaults.{to_default, rise_default, burst_default, stub_default, timer_default, all_offers}
 use Rattle.t1s_generator.proofs.SaidNodes.{node_said, nodes_said}
 
 module _ (p : Plan) (h : IsPlan p) where
@@ -47,20 +50,23 @@ module _ (p : Plan) (h : IsPlan p) where
 
   -- ---- the span
 
-  near : (x from count : ℕ) → x ≤ 12 → farthest x (map node (range_with_len from count)) ≤ 12
-  near x from zero low = omega arith
-  near x from (suc count) low = omega (arith, h.place_high from, near x (from + 1) count low)
+  no_stub : (k : ℕ) → (node k).stub ≡ 0
+  no_stub k = stub_default p k (k, p.place k)
 
-  narrow : (from count : ℕ) → widest (map node (range_with_len from count)) ≤ 12
+  near : (a : Tap) (from count : ℕ) → a.place ≤ 12 → a.stub ≡ 0 → farthest a (map tap_of (map node (range_with_len from count))) ≤ 12
+  near a from zero low none = omega arith
+  near a from (suc count) low none = omega (arith, h.place_high from, no_stub from, none, near a (from + 1) count low none)
+
+  narrow : (from count : ℕ) → span (map tap_of (map node (range_with_len from count))) ≤ 12
   narrow from zero = omega arith
-  narrow from (suc count) = omega (arith, near (p.place from) (from + 1) count (h.place_high from), narrow (from + 1) count)
+  narrow from (suc count) = omega (arith, near (tap_of (node from)) (from + 1) count (h.place_high from) (no_stub from), narrow (from + 1) count)
 
   -- ---- all premises
 
   pub fit_plan : IsFit (script_from (said p) p.last)
   fit_plan =
       let all : nodes_of (said p) ≡ map node (range_with_len 0 p.nodes) = nodes_said p h.nodes_high in
-      let span : widest (nodes_of (said p)) ≤ 12 = subst (λ ns. widest ns ≤ 12) (sym all) (narrow 0 p.nodes) in
+      let short : span (map tap_of (nodes_of (said p))) ≤ 12 = subst (λ ns. span (map tap_of ns) ≤ 12) (sym all) (narrow 0 p.nodes) in
       record {
         one_coordinator = ap coordinators all ∙ one_coordinator p.nodes h.nodes_low;
         distinct_ids = distinct all;
@@ -68,7 +74,7 @@ module _ (p : Plan) (h : IsPlan p) where
         one_timer = subst (All (λ (n : NodeLine). n.to ≡ setting_of To (said p))) (sym all) (each_counted (λ (n : NodeLine). n.to ≡ setting_of To (said p)) node 0 p.nodes (λ k below. timer_default p k (k, p.place k)));
         no_noise = all_offers p;
         short_bursts = omega (arith, burst_default p);
-        short_cable = omega (arith, span, rise_default p, to_default p);
+        short_cable = omega (arith, short, rise_default p, to_default p);
       }
     where
       distinct : nodes_of (said p) ≡ map node (range_with_len 0 p.nodes) → (i j : ℕ) (m n : NodeLine) → slice_get (nodes_of (said p)) i ≡ Some m → slice_get (nodes_of (said p)) j ≡ Some n → i < j → m.id ≢ n.id

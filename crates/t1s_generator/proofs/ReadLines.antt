@@ -1,9 +1,10 @@
--- Lines that say something by themselves, and texts of them.
+-- Lines of a script of version 1 that say something by themselves, and texts of them.
 use Rattle.std.proofs.Common.{◌≡◌, ℕ, zero, suc, ◌+◌, ◌*◌, ◌<◌, ◌≤◌, false, List, [], ◌∷◌, ◌++◌, length, map, All, refl, ap, ◌∙◌, arith, length-append, append_assoc}
 use Rattle.std.specs.Prelude.{◌==◌}
 use Rattle.std.specs.List.{concat, slice_split, join_with_byte, range_with_len}
 use Rattle.std.proofs.lemmas.List.Splits.{slice_split_at}
 use Rattle.t1s_script.specs.ParsedLine.{ParsedLine, line_in, is_skipped, parsed_line}
+use Rattle.t1s_script.specs.declared.versions.Version.TheVariants.{V1}
 use Rattle.t1s_generator.specs.Generated.{line}
 use Rattle.t1s_generator.proofs.LineFields.{AreFields, fields_cut, joined_lacks, joined_short}
 
@@ -13,9 +14,9 @@ pub record IsRead (octets : List ℕ) (says : ParsedLine) : Type 0 where
   pub whole : octets ≡ bare ++ 10 ∷ []
   pub lacks : All (λ x. (x == 10) ≡ false) bare
   pub short : length bare ≤ 105
-  pub parsed : parsed_line bare ≡ says
+  pub parsed : parsed_line V1 bare ≡ says
 
-pub line_read : (first : List ℕ) (rest : List (List ℕ)) (says : ParsedLine) → AreFields (first ∷ rest) → length rest ≤ 4 → is_skipped (join_with_byte 32 (first ∷ rest)) ≡ false → line_in (first ∷ rest) ≡ says
+pub line_read : (first : List ℕ) (rest : List (List ℕ)) (says : ParsedLine) → AreFields (first ∷ rest) → length rest ≤ 4 → is_skipped (join_with_byte 32 (first ∷ rest)) ≡ false → line_in V1 (first ∷ rest) ≡ says
     → IsRead (line (first ∷ rest)) says
 line_read first rest says h few kept e = record {
   bare = join_with_byte 32 (first ∷ rest);
@@ -25,8 +26,8 @@ line_read first rest says h few kept e = record {
   parsed = parsed kept;
 }
   where
-    parsed : is_skipped (join_with_byte 32 (first ∷ rest)) ≡ false → parsed_line (join_with_byte 32 (first ∷ rest)) ≡ says
-    parsed not_skipped = rw not_skipped (ap line_in (fields_cut first rest h) ∙ e)
+    parsed : is_skipped (join_with_byte 32 (first ∷ rest)) ≡ false → parsed_line V1 (join_with_byte 32 (first ∷ rest)) ≡ says
+    parsed not_skipped = rw not_skipped (ap (line_in V1) (fields_cut first rest h) ∙ e)
 
 -- each of these lines says that
 abbrev pub AreRead : List (List ℕ) → List ParsedLine → Type 0
@@ -49,7 +50,7 @@ counted_read f g from (suc count) h = (h from (omega arith), counted_read f g (f
 pub record IsText (octets : List ℕ) (count : ℕ) (says : List ParsedLine) : Type 0 where
   pub bares : List (List ℕ)
   pub cut : slice_split (λ x. x == 10) octets ≡ bares ++ [] ∷ []
-  pub parsed : map parsed_line bares ≡ says
+  pub parsed : map (parsed_line V1) bares ≡ says
   pub short : length octets ≤ 106 * count
 
 -- one line before others
@@ -59,7 +60,7 @@ line_before octets rest count first says h t =
     record {
       bares = h.bare ∷ t.bares;
       cut = ap (slice_split (λ x. x == 10)) same ∙ slice_split_at (λ x. x == 10) h.bare 10 rest h.lacks refl ∙ ap (λ ls. h.bare ∷ ls) t.cut;
-      parsed = ap (λ p. p ∷ map parsed_line t.bares) h.parsed ∙ ap (λ ps. first ∷ ps) t.parsed;
+      parsed = ap (λ p. p ∷ map (parsed_line V1) t.bares) h.parsed ∙ ap (λ ps. first ∷ ps) t.parsed;
       short = omega (arith, h.short, t.short, ap length same, length-append h.bare (10 ∷ rest));
     }
 

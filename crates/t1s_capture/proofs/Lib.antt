@@ -13,6 +13,7 @@ pub mod ItemOctets
 pub mod Steps
 pub mod Feeding
 mod Advancing
+pub mod Beacons
 pub mod Rows
 pub mod Cuts
 pub mod QuietRows

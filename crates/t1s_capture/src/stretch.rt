@@ -1,23 +1,31 @@
 //! Octets that are taken in one go.
-ghost use Rattle.std.specs.Prelude.{◌≡◌, ◌≤◌, ◌<◌, ◌^◌, false, length, IfOk, IfSome};
+ghost use Rattle.std.specs.Prelude.{◌≡◌, ◌≤◌, ◌<◌, ◌^◌, ◌+◌, false, length, IfOk, IfSome, IsTrue};
 ghost use Rattle.t1s_symbols.specs.Ranges.{IsSymbol};
+ghost use Rattle.t1s_symbols.specs.declared.Symbol.TheVariants.{Nibble};
 ghost use Rattle.t1s_grammar.specs.PlaceTable.{place_step};
 ghost use Rattle.t1s_capture.specs.declared.stage.OctetKind.TheVariants.{Known};
 ghost use Rattle.t1s_capture.specs.declared.stage.CountSoFar.TheVariants.{Nothing};
 ghost use Rattle.t1s_capture.specs.declared.stage.Stage.TheVariants.{InGap, InBurst};
-ghost use Rattle.t1s_capture.specs.DecoderTable.{fed, goes, symbol_step, symbol_taken};
+ghost use Rattle.t1s_capture.specs.DecoderTable.{fed, goes, octet_kind, symbol_step, symbol_taken};
 ghost use Rattle.t1s_capture.specs.OctetKinds.{OctetKindInRange};
 ghost use Rattle.t1s_capture.specs.Ranges.{Fits, FitsSymbol, closes};
-ghost use Rattle.t1s_capture.specs.StepAnswers.{IsSteppedTo, LastFits, StepFits, counted, decoder_at, last_next, passed_next, step_next};
+ghost use Rattle.t1s_capture.specs.StepAnswers.{IsBeacon, IsSteppedTo, LastFits, StepFits, beacon_ends, counted, decoder_at, last_next, passed_next, step_next};
 
-use crate::format::LIMIT;
-use crate::items::Why;
+use crate::format::{GAP, LIMIT};
+use crate::held_item::HeldItem;
+use crate::items::{Counts, Why};
 use crate::progress::{Progress, Step};
 use crate::stage::{BurstSoFar, CountSoFar, OctetKind, Stage, count_of, kind_of_octet};
 use t1s_grammar::PlaceFault;
 use t1s_symbols::Symbol;
 
-/// The symbol that an octet is, where it ends no piece.
+/// The octet of N, of which a beacon is made.
+const N: u8 = 0x08;
+
+/// The ticks of a beacon.
+const BEACON_TICKS: u64 = 20;
+
+/// The symbol that an octet is, where it is no nibble and ends no piece.
 #[inline(always)]
 fn open_symbol(kind: OctetKind) -> Option<Symbol>
     requires { OctetKindInRange kind }
@@ -26,10 +34,51 @@ fn open_symbol(kind: OctetKind) -> Option<Symbol>
     ensures symbol { IfSome result IsSymbol }
 {
     match kind {
-        OctetKind::Known(Symbol::R | Symbol::K | Symbol::S) => None,
+        OctetKind::Known(Symbol::R | Symbol::K | Symbol::S | Symbol::Nibble(_)) => None,
         OctetKind::Known(symbol) => Some(symbol),
         OctetKind::Gap | OctetKind::End | OctetKind::Torn | OctetKind::Unknown => None,
     }
+}
+
+/// The nibble that an octet is, if it is one.
+// Nearly all octets of a frame are nibbles, so they are looked up without the other symbols.
+#[tactic(auto, unfolding(t1s_symbols::specs::GroupTable::symbol))]
+fn nibble_of(octet: u8) -> Option<u8>
+    ensures kind { IfSome result (λ n. octet_kind octet ≡ Known (Nibble n)) }
+    ensures range { IfSome result (λ n. n < 16) }
+{
+    match octet {
+        0x1E => Some(0x0),
+        0x09 => Some(0x1),
+        0x14 => Some(0x2),
+        0x15 => Some(0x3),
+        0x0A => Some(0x4),
+        0x0B => Some(0x5),
+        0x0E => Some(0x6),
+        0x0F => Some(0x7),
+        0x12 => Some(0x8),
+        0x13 => Some(0x9),
+        0x16 => Some(0xA),
+        0x17 => Some(0xB),
+        0x1A => Some(0xC),
+        0x1B => Some(0xD),
+        0x1C => Some(0xE),
+        0x1D => Some(0xF),
+        _ => None,
+    }
+}
+
+/// Whether a beacon and the first octet of the next gap stand behind the four octets of a gap's count.
+fn is_beacon(octets: &[u8]) -> bool
+    ensures { IsTrue result → IsBeacon octets.now }
+{
+    octets.len() >= 10
+        && octets[4] == N
+        && octets[5] == N
+        && octets[6] == N
+        && octets[7] == N
+        && octets[8] == N
+        && octets[9] == GAP
 }
 
 impl Progress {
@@ -63,8 +112,9 @@ impl Progress {
         (octets.len(), Step::Goes(stage))
     }
 
-    /// Takes octets one after another: within a burst its symbols, up to the first octet that leads elsewhere, the count of a
-    /// gap as a whole, and else one octet. It answers the place of the last octet that was taken, and what it leads to. That one is not counted here.
+    /// Takes octets one after another: the nibbles of a piece, or the other symbols of a burst, up to the first octet that
+    /// leads elsewhere; the count of a gap as a whole, with a beacon that stands alone between it and the next gap; and else
+    /// one octet. It answers the place of the last octet that was taken, and what it leads to. That one is not counted here.
     fn stretch(&mut self, stage: Stage, octets: &[u8]) -> (usize, Step)
         requires some { 1 ≤ length octets.now }
         requires below { self.old.taken < 2 ^ 30 }
@@ -75,13 +125,15 @@ impl Progress {
         ensures below { self.new.taken < 2 ^ 30 }
     {
         match stage {
+            Stage::InBurst(burst) if burst.place.nibbles() != 0 => self.nibbles(burst, octets),
             Stage::InBurst(burst) => self.symbols(burst, octets),
             Stage::InGap(CountSoFar::Nothing) => self.gap(octets),
             other => (0, self.step(other, octets[0])),
         }
     }
 
-    /// The same where a gap has begun: all octets of its count, if they are there, and else one.
+    /// The same where a gap has begun: all octets of its count, if they are there, and else one. Where a beacon and the next
+    /// gap follow, they are taken up to the first octet of that gap.
     fn gap(&mut self, octets: &[u8]) -> (usize, Step)
         requires some { 1 ≤ length octets.now }
         requires below { self.old.taken < 2 ^ 30 }
@@ -94,12 +146,37 @@ impl Progress {
         if octets.len() < 4 || LIMIT - self.taken < 4 {
             return (0, self.in_gap(CountSoFar::Nothing, octets[0]));
         }
-        self.taken += 3;
         let ticks = count_of(octets[0], octets[1], octets[2], octets[3]);
+        if ticks != 0 && LIMIT - self.taken >= 10 && is_beacon(octets) {
+            return (9, self.beacon(ticks));
+        }
+        self.taken += 3;
         (3, self.gap_ends(ticks))
     }
 
-    /// The same within a burst. No octet past the most that a capture may have is taken.
+    /// What a gap of so many ticks, a beacon and the first octet of the next gap lead to. That octet is not counted here.
+    fn beacon(&mut self, ticks: u32) -> Step
+        requires below { self.old.taken + 10 ≤ 2 ^ 30 }
+        requires fits { Fits self.old (InGap Nothing) }
+        ensures next { step_next result self.new ≡ beacon_ends self.old ticks }
+        ensures fits { StepFits result self.new }
+        ensures below { self.new.taken < 2 ^ 30 }
+    {
+        let start = self.counts.ticks + ticks as u64;
+        self.taken += 9;
+        self.counts = Counts {
+            ticks: start + BEACON_TICKS,
+            beacons: self.counts.beacons + 1,
+            ..self.counts
+        };
+        Step::Yields(
+            HeldItem::Beacon { start },
+            Stage::InGap(CountSoFar::Nothing),
+        )
+    }
+
+    /// The same within a burst, before the nibbles of a piece and after them. No octet past the most that a capture may have is
+    /// taken.
     fn symbols(&mut self, burst: BurstSoFar, octets: &[u8]) -> (usize, Step)
         requires some { 1 ≤ length octets.now }
         requires below { self.old.taken < 2 ^ 30 }
@@ -122,6 +199,33 @@ impl Progress {
                     Err(why) => return (place, Step::Refuses(why)),
                 },
                 None => return (place, self.in_burst(burst, kind)),
+            }
+        }
+        (last, self.in_burst(burst, kind_of_octet(octets[last])))
+    }
+
+    /// The same within a burst, after a nibble of a piece.
+    fn nibbles(&mut self, burst: BurstSoFar, octets: &[u8]) -> (usize, Step)
+        requires some { 1 ≤ length octets.now }
+        requires below { self.old.taken < 2 ^ 30 }
+        requires fits { Fits self.old (InBurst burst) }
+        ensures within { result.0 < length octets.now }
+        ensures next { IsSteppedTo (decoder_at self.old (InBurst burst)) octets.now result.0 (step_next result.1 self.new) }
+        ensures fits { StepFits result.1 self.new }
+        ensures below { self.new.taken < 2 ^ 30 }
+    {
+        let last = octets.len().min((LIMIT - self.taken) as usize) - 1;
+        let mut burst = burst;
+        for place in 0..last {
+            match nibble_of(octets[place]) {
+                Some(nibble) => match self.passes(burst, Symbol::Nibble(nibble)) {
+                    Ok(next) => {
+                        self.taken += 1;
+                        burst = next;
+                    }
+                    Err(why) => return (place, Step::Refuses(why)),
+                },
+                None => return (place, self.in_burst(burst, kind_of_octet(octets[place]))),
             }
         }
         (last, self.in_burst(burst, kind_of_octet(octets[last])))

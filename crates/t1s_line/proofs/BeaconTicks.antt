@@ -17,6 +17,7 @@ use Rattle.t1s_world.proofs.WorldLemmas.{past-zero, kept_next, driven_is, driven
 use Rattle.t1s_script.specs.Script.{IsScript, IsNodeLine}
 use Rattle.t1s_script.specs.declared.script.Script.{Script}
 use Rattle.t1s_script.specs.declared.script.NodeLine.{NodeLine}
+use Rattle.t1s_script.specs.Taps.{taps_of}
 use Rattle.t1s_scramble.specs.Scrambled.{start_history}
 use Rattle.t1s_pcs_tx.specs.State.{quarter_of}
 use Rattle.plca_control.specs.declared.State.TheVariants.{Disabled, Recover, Resync}
@@ -24,7 +25,7 @@ use Rattle.t1s_node.specs.Node.{NodeState}
 use Rattle.t1s_line.specs.declared.track.Track.{Track}
 use Rattle.t1s_line.specs.Outcomes.{DriveOutcome, HearOutcome}
 use Rattle.t1s_line.specs.Track.{drive_track, hear_track, driven_track, hearing_track}
-use Rattle.t1s_line.specs.World.{machine_of, world, places_of, first_track, first_tracks, driven_in}
+use Rattle.t1s_line.specs.World.{machine_of, world, first_track, first_tracks, driven_in}
 use Rattle.t1s_line.specs.Beacons.{IsLoneCoordinator, beacon_start, IsBeacon, DrivesAreBeacons}
 use Rattle.t1s_line.proofs.HeardTicks.{drive_started, hear_started}
 use Rattle.t1s_line.proofs.WithoutActs.{tick_alone, quarter_alone}
@@ -134,17 +135,17 @@ module _ (s : Script) (z : ℕ) (line : NodeLine) (valid : IsScript s) (none : s
   others_none : (i t : ℕ) → (i ≡ z → ⊥) → driven_in s i t ≡ None
   others_none i t other = elim (slice_get_cases s.nodes i).1 [
     | inl found ↦ silent_drives_none s none t i found.0 found.2 (one.others i found.0 found.2 other)
-    | inr past ↦ driven_past (machine_of s) (places_of s) (first_tracks s) t i (omega (arith, past.0, length-map s.nodes (first_track s)))
+    | inr past ↦ driven_past (machine_of s) (taps_of s) (first_tracks s) t i (omega (arith, past.0, length-map s.nodes (first_track s)))
   ]
 
   rows_none : (t i d : ℕ) → (i ≡ z → ⊥) → at_depth (world s t).rows i d ≡ None
   rows_none t i d other = elim (cases_lt d t) [
-    | inl lt ↦ at_depth-within (machine_of s) (places_of s) (first_tracks s) t d (t - suc d) i (omega arith) ∙ others_none i (t - suc d) other
-    | inr ge ↦ at_depth-before (machine_of s) (places_of s) (first_tracks s) t d i ge
+    | inl lt ↦ at_depth-within (machine_of s) (taps_of s) (first_tracks s) t d (t - suc d) i (omega arith) ∙ others_none i (t - suc d) other
+    | inr ge ↦ at_depth-before (machine_of s) (taps_of s) (first_tracks s) t d i ge
   ]
 
-  hears_nothing : (t : ℕ) → heard_at (machine_of s) (places_of s) (first_tracks s) t z ≡ Nothing
-  hears_nothing t = heard_nothing (at_depth (world s (suc t)).rows) (places_of s) z (λ i d h other. rows_none (suc t) i d other)
+  hears_nothing : (t : ℕ) → heard_at (machine_of s) (taps_of s) (first_tracks s) t z ≡ Nothing
+  hears_nothing t = heard_nothing (at_depth (world s (suc t)).rows) (taps_of s) z (λ i d h other. rows_none (suc t) i d other)
 
   next : (t : ℕ) (n : NodeState) → AtTick s.count line.to s.rise s.fall t n → AtTick s.count line.to s.rise s.fall (t + 1) (lone n)
   next t n h = at_next s.count line.to s.rise s.fall valid.count_low (omega (arith, in_range.to_low)) (omega (arith, valid.rise_high)) valid.fall_low t n h
@@ -165,22 +166,22 @@ module _ (s : Script) (z : ℕ) (line : NodeLine) (valid : IsScript s) (none : s
   -- and before tick t
   kept_at : (t : ℕ) → (k : Track) × (slice_get (world s t).nodes z ≡ Some k) × (k.start ≡ 0) × AtTick s.count line.to s.rise s.fall t k.node
   kept_at zero =
-      let start = past-zero (machine_of s) (places_of s) (first_tracks s) in
+      let start = past-zero (machine_of s) (taps_of s) (first_tracks s) in
       (first_track s line, rw start (slice_get-map (first_track s) s.nodes z line one.here), at_once, first_waits)
   kept_at (suc t) =
       let (k, at, start, phase) = kept_at t in
-      let later = kept_next (machine_of s) (places_of s) (first_tracks s) t z k at in
+      let later = kept_next (machine_of s) (taps_of s) (first_tracks s) t z k at in
       let on : AtTick s.count line.to s.rise s.fall (t + 1) (lone k.node) = next t k.node phase in
       let same : t + 1 ≡ suc t = omega arith in
       let P : ℕ → Type 0 = λ u. AtTick s.count line.to s.rise s.fall u (lone k.node) in
-      (hearing_track Nothing (driven_track k), later ∙ ap Some (tick_alone s none t (heard_at (machine_of s) (places_of s) (first_tracks s) t z) k ∙ alone t (heard_at (machine_of s) (places_of s) (first_tracks s) t z) k (hears_nothing t) start), start, subst P same on)
+      (hearing_track Nothing (driven_track k), later ∙ ap Some (tick_alone s none t (heard_at (machine_of s) (taps_of s) (first_tracks s) t z) k ∙ alone t (heard_at (machine_of s) (taps_of s) (first_tracks s) t z) k (hears_nothing t) start), start, subst P same on)
 
   -- what it drives in tick t, from what it keeps after it
   drives_at : (t : ℕ) → (n : NodeState) × (driven_in s z t ≡ quarter_of n.core.tx) × AtTick s.count line.to s.rise s.fall (t + 1) n
   drives_at t =
       let (k, at, start, phase) = kept_at t in (
         lone k.node,
-        driven_is (machine_of s) (places_of s) (first_tracks s) t z k at ∙ (quarter_alone s none t k ∙ rw (drive_started t k (omega (arith, start))) (node_drives k.node)),
+        driven_is (machine_of s) (taps_of s) (first_tracks s) t z k at ∙ (quarter_alone s none t k ∙ rw (drive_started t k (omega (arith, start))) (node_drives k.node)),
         next t k.node phase,
       )
 

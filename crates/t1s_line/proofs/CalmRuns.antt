@@ -20,7 +20,7 @@ use Rattle.t1s_line.specs.Acts.{Offer, queued_to, offers_at, offers_to, is_noisy
 use Rattle.t1s_line.specs.EventRecords.{EventRecord}
 use Rattle.t1s_line.specs.Offers.{OfferRecord, offer_event, records_of, after_records, after_leaves}
 use Rattle.t1s_line.specs.Outcomes.{DriveOutcome, HearOutcome, NodePhases, with_offers, machine_with}
-use Rattle.t1s_line.specs.Runs.{places_in, are_ok, nodes_in, records_in, drives_in, hearings_in, events_in, all_ok_in, settled_in, totals_in, state_in, heard_below, heard_tick, drive_events_of, hear_events_of}
+use Rattle.t1s_line.specs.Runs.{taps_in, are_ok, nodes_in, records_in, drives_in, hearings_in, events_in, all_ok_in, settled_in, totals_in, state_in, heard_below, heard_tick, drive_events_of, hear_events_of}
 use Rattle.t1s_line.specs.Totals.{after_refusals, after_driving, after_hearing}
 use Rattle.t1s_line.specs.CalmRuns.{quiet_drive, quiet_hearing, after_silence, HasCalmTicks, IsCalmIn}
 use Rattle.t1s_line.proofs.RunLemmas.{settled-more, totals-more, state-more, heard-more}
@@ -46,9 +46,9 @@ module _ {N : Type 0} (p : NodePhases N) (holds : N → Type 0) (calm : ℕ → 
   hear_holds t h s (n ∷ ns) all = (laws.hearing t _ n all.0, hear_holds t h (s + 1) ns all.1)
 
   pub nodes_hold : (lines : List NodeLine) (first : List N) → AllByRecursion holds first → (t : ℕ) → AllByRecursion holds (nodes_in p acts lines first t)
-  nodes_hold lines first all zero = subst (λ (q : Past N). AllByRecursion holds q.nodes) (sym (past-zero m (places_in lines) first)) all
+  nodes_hold lines first all zero = subst (λ (q : Past N). AllByRecursion holds q.nodes) (sym (past-zero m (taps_in lines) first)) all
   nodes_hold lines first all (suc t) =
-      subst (λ (q : Past N). AllByRecursion holds q.nodes) (sym (past-suc m (places_in lines) first t))
+      subst (λ (q : Past N). AllByRecursion holds q.nodes) (sym (past-suc m (taps_in lines) first t))
       (hear_holds t _ 0 (after_drive m t (nodes_in p acts lines first t)) (drive_holds t (nodes_in p acts lines first t) (nodes_hold lines first all t)))
 
   -- ---- the two phases of a calm tick
@@ -123,14 +123,14 @@ module _ {N : Type 0} (p : NodePhases N) (holds : N → Type 0) (calm : ℕ → 
     nodes t = nodes_in p acts lines first t
 
     length_nodes : (t : ℕ) → length (nodes t) ≡ length lines
-    length_nodes t = length-nodes m (places_in lines) first t ∙ size
+    length_nodes t = length-nodes m (taps_in lines) first t ∙ size
 
     -- a tick without acts that is calm for each node has an empty row
     pub rows_on : (t : ℕ) → offers_at acts t ≡ [] → AllByRecursion (calm t) (nodes t)
-        → (past m (places_in lines) first (suc t)).rows ≡ replicate (length lines) None ∷ (past m (places_in lines) first t).rows
+        → (past m (taps_in lines) first (suc t)).rows ≡ replicate (length lines) None ∷ (past m (taps_in lines) first t).rows
     rows_on t offers all =
-        ap (λ (q : Past N). q.rows) (past-suc m (places_in lines) first t)
-        ∙ ap (λ (row : List (Option Quarter)). row ∷ (past m (places_in lines) first t).rows)
+        ap (λ (q : Past N). q.rows) (past-suc m (taps_in lines) first t)
+        ∙ ap (λ (row : List (Option Quarter)). row ∷ (past m (taps_in lines) first t).rows)
         (quiet_row t offers (nodes t) (nodes_hold lines first firsts t) all ∙ ap (λ (k : ℕ). replicate k None) (length_nodes t))
 
     module _ (t : ℕ) (is : IsCalmIn p calm acts lines first t) where
@@ -143,16 +143,16 @@ module _ {N : Type 0} (p : NodePhases N) (holds : N → Type 0) (calm : ℕ → 
       all : AllByRecursion (calm t) (nodes t)
       all = recursion_from_All (calm t) (nodes t) is.nodes
 
-      hears_nothing : (j : ℕ) → 0 ≤ j → j < 0 + length (nodes t) → heard_at m (places_in lines) first t j ≡ Nothing
+      hears_nothing : (j : ℕ) → 0 ≤ j → j < 0 + length (nodes t) → heard_at m (taps_in lines) first t j ≡ Nothing
       hears_nothing j low high = is.unreached j (omega (arith, high, length_nodes t))
 
       -- the row of the tick is empty
-      pub calm_rows : (past m (places_in lines) first (suc t)).rows ≡ replicate (length lines) None ∷ (past m (places_in lines) first t).rows
+      pub calm_rows : (past m (taps_in lines) first (suc t)).rows ≡ replicate (length lines) None ∷ (past m (taps_in lines) first t).rows
       calm_rows = rows_on t offers all
 
       pub calm_nodes : nodes (suc t) ≡ map (after_silence p t) (nodes t)
       unfolding past
-      calm_nodes = silent_nodes t offers is.no_noise (heard_at m (places_in lines) first t) 0 (nodes t) hears_nothing
+      calm_nodes = silent_nodes t offers is.no_noise (heard_at m (taps_in lines) first t) 0 (nodes t) hears_nothing
 
       pub calm_records : records_in p acts lines first t ≡ []
       unfolding records_in
@@ -164,12 +164,12 @@ module _ {N : Type 0} (p : NodePhases N) (holds : N → Type 0) (calm : ℕ → 
 
       pub calm_hearings : AllByRecursion IsQuietHearing (hearings_in p acts lines first t)
       unfolding hearings_in
-      calm_hearings = quiet_hearings t offers is.no_noise (heard_at m (places_in lines) first t) 0 (nodes t) hears_nothing hold all
+      calm_hearings = quiet_hearings t offers is.no_noise (heard_at m (taps_in lines) first t) 0 (nodes t) hears_nothing hold all
 
       length_hearings : length (hearings_in p acts lines first t) ≡ length lines
       unfolding hearings_in
       length_hearings =
-          length-hear_outcomes m t (heard_at m (places_in lines) first t) 0 (after_drive m t (nodes t))
+          length-hear_outcomes m t (heard_at m (taps_in lines) first t) 0 (after_drive m t (nodes t))
           ∙ (length-map (nodes t) (λ n. (m.drive t n).0) ∙ length_nodes t)
 
       -- it has no event
@@ -216,7 +216,7 @@ module _ {N : Type 0} (p : NodePhases N) (holds : N → Type 0) (calm : ℕ → 
         let none_ok = not_ok_first (offers zero is) (nodes zero) (omega (arith, some, length_nodes zero)) (all zero is) in
         cc
     was_ok some (suc t) is ok =
-        let h : ℕ → Heard = heard_at m (places_in lines) first t in
+        let h : ℕ → Heard = heard_at m (taps_in lines) first t in
         let before : are_ok (drives_in p acts lines first t) ≡ true = ok_before t (offers (suc t) is) h 0 (nodes t) (all (suc t) is) ok in
         let more : settled_in p acts lines first (suc t) ≡ option_or (settled_in p acts lines first t) (cond (are_ok (drives_in p acts lines first t)) (Some t) None) =
         rw add-one at (settled-more p acts lines first t) in

@@ -14,13 +14,14 @@ use Rattle.plca_control.specs.StatusTable.{status_is_ok}
 use Rattle.t1s_node.specs.CalmNode.{IsCalmNode}
 use Rattle.t1s_script.specs.declared.script.Script.{Script}
 use Rattle.t1s_script.specs.declared.script.NodeLine.{NodeLine}
+use Rattle.t1s_script.specs.Taps.{taps_of}
 use Rattle.t1s_line.specs.declared.track.Track.{Track}
 use Rattle.t1s_line.specs.Acts.{offers_at}
 use Rattle.t1s_line.specs.CalmRuns.{IsCalmIn}
 use Rattle.t1s_line.specs.CalmTicks.{CalmTicksAreQuiet, IsCalm, IsCalmTrack, IsTold, passed_track}
 use Rattle.t1s_line.specs.Outcomes.{DriveOutcome}
 use Rattle.t1s_line.specs.Track.{track_phases}
-use Rattle.t1s_line.specs.World.{driven_in, first_track, first_tracks, machine_of, places_of, start_of, world}
+use Rattle.t1s_line.specs.World.{driven_in, first_track, first_tracks, machine_of, start_of, world}
 use Rattle.t1s_line.proofs.CalmPhases.{each_of, no_act_no_offers}
 use Rattle.t1s_line.proofs.CalmRuns.{as_alone, calm_events, nodes_hold}
 use Rattle.t1s_line.proofs.CalmTracks.{track_calm}
@@ -70,11 +71,11 @@ module _ (s : Script) (t : ℕ) where
           let at : slice_get (world s t).nodes i ≡ Some k = found.2 in
           let held : IsTold k = element IsTold (world s t).nodes i k (nodes_hold track_phases IsTold IsCalmTrack passed_track track_calm s.acts s.nodes (first_tracks s) (firsts_told s s.nodes) t) at in
           let quiet : (track_phases.drive t k).1.quarter ≡ None = ap (λ (d : DriveOutcome). d.quarter) (track_calm.drives t k held (calm_track i k at)) in
-          driven_is (machine_of s) (places_of s) (first_tracks s) t i k at
+          driven_is (machine_of s) (taps_of s) (first_tracks s) t i k at
           ∙ ap (λ (r : Track × DriveOutcome). r.1.quarter) (as_alone track_phases IsTold IsCalmTrack passed_track track_calm s.acts t (no_act_no_offers s.acts t calm.no_act) k)
           ∙ quiet
       | inr past ↦
-          driven_past (machine_of s) (places_of s) (first_tracks s) t i (omega (arith, past.0, length-world s t, length-map s.nodes (first_track s)))
+          driven_past (machine_of s) (taps_of s) (first_tracks s) t i (omega (arith, past.0, length-world s t, length-map s.nodes (first_track s)))
     ]
 
     pub script_from_run : IsCalm s t

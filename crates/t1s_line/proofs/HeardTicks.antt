@@ -16,13 +16,14 @@ use Rattle.t1s_world.proofs.WorldLemmas.{driven_is, hear_outcome_is, length-node
 use Rattle.t1s_node.specs.Node.{is_heard, is_many}
 use Rattle.t1s_script.specs.declared.script.Script.{Script}
 use Rattle.t1s_script.specs.declared.script.NodeLine.{NodeLine}
+use Rattle.t1s_script.specs.Taps.{taps_of}
 use Rattle.t1s_line.specs.declared.track.Track.{Track}
 use Rattle.t1s_line.specs.declared.offers.OfferOutcome.TheVariants.{Off}
 use Rattle.t1s_line.specs.Acts.{offers_to, with_noise}
 use Rattle.t1s_line.specs.Outcomes.{HearOutcome, with_offers}
 use Rattle.t1s_line.specs.Runs.{heard_below, hearings_in, heard_tick, last_heard_in}
 use Rattle.t1s_line.specs.Track.{track_phases, offer_track, offered_track, offer_outcome, drive_track, hear_track, no_drive, no_hearing, driven_track, drive_outcome, hearing_track, hear_outcome}
-use Rattle.t1s_line.specs.World.{machine_of, world, places_of, first_track, first_tracks, position_of, start_of, driven_in, heard_in, tick_in, last_heard, clash_at}
+use Rattle.t1s_line.specs.World.{machine_of, world, first_track, first_tracks, position_of, start_of, driven_in, heard_in, tick_in, last_heard, clash_at}
 
 -- ---- an offer and the two phases before the start and from it on
 
@@ -82,7 +83,7 @@ module _ (s : Script) where
 
   pub starts_are : (t : ℕ) → map (λ (k : Track). k.start) (world s t).nodes ≡ map (λ (n : NodeLine). n.start) s.nodes
   starts_are t =
-      past_keeps (machine_of s) (places_of s) (first_tracks s) (λ (k : Track). k.start)
+      past_keeps (machine_of s) (taps_of s) (first_tracks s) (λ (k : Track). k.start)
       (λ u k. drive_start u (offered_in u k) ∙ offers_start u (offers_to s.acts u k.no) k)
       (λ u h k. hear_start u (with_noise s.acts u h) k)
       t
@@ -96,7 +97,7 @@ module _ (s : Script) where
       found.2,
       ap (λ (ns : List ℕ). get_or ns j 0) (sym (starts_are t)) ∙ get_or-map (λ (k : Track). k.start) (world s t).nodes j found.0 0 found.2,
     )
-    | inr past ↦ absurd (omega (arith, past.0, there, length-nodes (machine_of s) (places_of s) (first_tracks s) t, length-map s.nodes (first_track s)))
+    | inr past ↦ absurd (omega (arith, past.0, there, length-nodes (machine_of s) (taps_of s) (first_tracks s) t, length-map s.nodes (first_track s)))
   ]
 
   -- what comes of the tick at a node
@@ -110,13 +111,13 @@ module _ (s : Script) where
   unfolding heard_below hearings_in heard_in
   tick_is t j there =
       let (k, at, start) = track_at t j there in
-      let x : Heard = heard_at (machine_of s) (places_of s) (first_tracks s) t j in
+      let x : Heard = heard_at (machine_of s) (taps_of s) (first_tracks s) t j in
       let y : Heard = with_noise s.acts t x in
       let after : Track = offered_in t k in
       let same : start_of s j ≡ after.start = start ∙ sym (offers_start t (offers_to s.acts t k.no) k) in
-      let outcomes : List HearOutcome = hear_outcomes_at (machine_of s) (places_of s) (first_tracks s) t in
-      let drives = driven_is (machine_of s) (places_of s) (first_tracks s) t j k at in
-      let comes = hear_outcome_is (machine_of s) (places_of s) (first_tracks s) t j k at in
+      let outcomes : List HearOutcome = hear_outcomes_at (machine_of s) (taps_of s) (first_tracks s) t in
+      let drives = driven_is (machine_of s) (taps_of s) (first_tracks s) t j k at in
+      let comes = hear_outcome_is (machine_of s) (taps_of s) (first_tracks s) t j k at in
       rw (same, drives)
       (get_or-map heard_tick outcomes j (hear_track t y (drive_track t after).0).1 (Nothing, false) comes ∙ outcome_is t y after)
 
@@ -129,7 +130,7 @@ module _ (s : Script) where
 
   -- what the node at a position hears once it has started, and so whether signals meet there
   abbrev pub comes_to : ℕ → ℕ → Heard
-  comes_to t j = with_noise s.acts t (heard_at (machine_of s) (places_of s) (first_tracks s) t j)
+  comes_to t j = with_noise s.acts t (heard_at (machine_of s) (taps_of s) (first_tracks s) t j)
 
   pub clash_is : (t j : ℕ) → j < length s.nodes
       → clash_at s j t ≡ cond (ltb t (start_of s j)) false (is_many (comes_to t j) || (is_some (driven_in s j t) && is_heard (comes_to t j)))
@@ -139,9 +140,9 @@ module _ (s : Script) where
       let y : Heard = comes_to t j in
       let after : Track = offered_in t k in
       let same : start_of s j ≡ after.start = start ∙ sym (offers_start t (offers_to s.acts t k.no) k) in
-      let outcomes : List HearOutcome = hear_outcomes_at (machine_of s) (places_of s) (first_tracks s) t in
-      let drives = driven_is (machine_of s) (places_of s) (first_tracks s) t j k at in
-      let comes = hear_outcome_is (machine_of s) (places_of s) (first_tracks s) t j k at in
+      let outcomes : List HearOutcome = hear_outcomes_at (machine_of s) (taps_of s) (first_tracks s) t in
+      let drives = driven_is (machine_of s) (taps_of s) (first_tracks s) t j k at in
+      let comes = hear_outcome_is (machine_of s) (taps_of s) (first_tracks s) t j k at in
       rw (same, drives)
       (get_or-map (λ (d : HearOutcome). d.clash) outcomes j (hear_track t y (drive_track t after).0).1 false comes ∙ meets_is t y after)
 
@@ -156,5 +157,5 @@ module _ (s : Script) where
       go : (o : Option ℕ) → position_of s node ≡ o → option_map (λ j. get_or ticks j (Nothing, false)) o ≡ option_map (λ j. tick_in s j t) o
       go None e = refl
       go (Some j) e =
-          let none : NodeLine = get_or s.nodes 0 (record { no = 0; id = 0; place = 0; to = 0; start = 0; draws = None }) in
+          let none : NodeLine = get_or s.nodes 0 (record { no = 0; id = 0; place = 0; stub = 0; to = 0; start = 0; draws = None }) in
           ap Some (tick_is t j (position-Some (λ (n : NodeLine). n.no == node) s.nodes j none e).0)

@@ -9,6 +9,7 @@ use Rattle.t1s_world.specs.World.{after_drive, heard_at}
 use Rattle.t1s_world.proofs.WorldLemmas.{length-nodes, length-hear_outcomes, past_keeps}
 use Rattle.t1s_script.specs.Script.{numbers_of}
 use Rattle.t1s_script.specs.declared.script.Script.{Script}
+use Rattle.t1s_script.specs.Taps.{taps_of}
 use Rattle.t1s_line.specs.declared.offers.OfferOutcome.{OfferOutcome}
 use Rattle.t1s_line.specs.declared.offers.OfferOutcome.TheVariants.{Off}
 use Rattle.t1s_line.specs.declared.track.Track.{Track}
@@ -16,7 +17,7 @@ use Rattle.t1s_line.specs.Acts.{offers_to}
 use Rattle.t1s_line.specs.Outcomes.{DriveOutcome, HearOutcome, KeepsNumber, with_offers}
 use Rattle.t1s_line.specs.Runs.{drives_in, hearings_in}
 use Rattle.t1s_line.specs.Track.{offered_track, offer_outcome, offer_track, driven_track, no_drive, drive_outcome, drive_track, hearing_track, hear_outcome, no_hearing, hear_track, track_phases}
-use Rattle.t1s_line.specs.World.{machine_of, places_of, first_track, first_tracks, world, drives_at, hearings_at}
+use Rattle.t1s_line.specs.World.{machine_of, first_track, first_tracks, world, drives_at, hearings_at}
 
 -- ---- no part of a tick changes the number of a node
 
@@ -50,7 +51,7 @@ hear_no t x k = go (nat_lt t k.start)
 
 module _ (s : Script) where
   pub length-world : (t : ℕ) → length (world s t).nodes ≡ length s.nodes
-  length-world t = length-nodes (machine_of s) (places_of s) (first_tracks s) t ∙ length-map s.nodes (first_track s)
+  length-world t = length-nodes (machine_of s) (taps_of s) (first_tracks s) t ∙ length-map s.nodes (first_track s)
 
   pub length-drives : (t : ℕ) → length (drives_at s t) ≡ length s.nodes
   unfolding drives_in
@@ -59,14 +60,14 @@ module _ (s : Script) where
   pub length-hearings : (t : ℕ) → length (hearings_at s t) ≡ length s.nodes
   unfolding hearings_in
   length-hearings t =
-      length-hear_outcomes (machine_of s) t (heard_at (machine_of s) (places_of s) (first_tracks s) t) 0
+      length-hear_outcomes (machine_of s) t (heard_at (machine_of s) (taps_of s) (first_tracks s) t) 0
       (after_drive (machine_of s) t (world s t).nodes)
       ∙ length-map (world s t).nodes (λ n. ((machine_of s).drive t n).0)
       ∙ length-world t
 
   pub numbers_stay : (t : ℕ) → map (λ (k : Track). k.no) (world s t).nodes ≡ numbers_of s.nodes
   numbers_stay t =
-      past_keeps (machine_of s) (places_of s) (first_tracks s) (λ (k : Track). k.no)
+      past_keeps (machine_of s) (taps_of s) (first_tracks s) (λ (k : Track). k.no)
       (λ u k. drive_no u (with_offers track_phases u (offers_to s.acts u k.no) k) ∙ offers_no u (offers_to s.acts u k.no) k)
       (λ u x k. hear_no u _ k) t
       ∙ map-map (λ (k : Track). k.no) (first_track s) s.nodes

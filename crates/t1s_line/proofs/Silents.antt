@@ -20,9 +20,10 @@ use Rattle.plca_control.specs.ControlTable.{control_row, reach, is_beacon}
 use Rattle.t1s_node.specs.Node.{NodeState, reading_of, node_drive}
 use Rattle.t1s_script.specs.declared.script.Script.{Script}
 use Rattle.t1s_script.specs.declared.script.NodeLine.{NodeLine}
+use Rattle.t1s_script.specs.Taps.{taps_of}
 use Rattle.t1s_line.specs.declared.track.Track.{Track}
 use Rattle.t1s_line.specs.Track.{drive_track, hear_track}
-use Rattle.t1s_line.specs.World.{machine_of, world, places_of, first_track, first_tracks, driven_in}
+use Rattle.t1s_line.specs.World.{machine_of, world, first_track, first_tracks, driven_in}
 use Rattle.t1s_line.proofs.HeardTicks.{drive_before, drive_started, hear_before, hear_started}
 use Rattle.t1s_line.proofs.WithoutActs.{tick_alone, quarter_alone}
 use Rattle.t1s_line.proofs.Frameless.{IsFrameless, DrivesTo, drives_to, given, told_alone, told_control, quiet_told}
@@ -152,15 +153,15 @@ module _ (s : Script) (none : s.acts ≡ []) where
   -- such a node is silent at each tick
   silent_at : (t i : ℕ) (line : NodeLine) → slice_get s.nodes i ≡ Some line → 0 < line.id → (k : Track) × (slice_get (world s t).nodes i ≡ Some k) × IsSilent k.node
   silent_at zero i line e h =
-      let start = past-zero (machine_of s) (places_of s) (first_tracks s) in
+      let start = past-zero (machine_of s) (taps_of s) (first_tracks s) in
       (first_track s line, rw start (slice_get-map (first_track s) s.nodes i line e), record { id = h; state = first_silent (eqb line.id 255) (eqb line.id 0) (search (rules, nat_tests)); quiet = refl; frameless = first_frameless s line })
   silent_at (suc t) i line e h =
       let (k, at, silent) = silent_at t i line e h in
-      let heard : Heard = heard_at (machine_of s) (places_of s) (first_tracks s) t i in
-      ((hear_track t heard (drive_track t k).0).0, kept_next (machine_of s) (places_of s) (first_tracks s) t i k at ∙ ap Some (tick_alone s none t heard k), hear_silent t heard (drive_track t k).0 (drive_silent t k silent).silent)
+      let heard : Heard = heard_at (machine_of s) (taps_of s) (first_tracks s) t i in
+      ((hear_track t heard (drive_track t k).0).0, kept_next (machine_of s) (taps_of s) (first_tracks s) t i k at ∙ ap Some (tick_alone s none t heard k), hear_silent t heard (drive_track t k).0 (drive_silent t k silent).silent)
 
   -- and so it never drives
   pub silent_drives_none : (t i : ℕ) (line : NodeLine) → slice_get s.nodes i ≡ Some line → 0 < line.id → driven_in s i t ≡ None
   silent_drives_none t i line e h =
       let (k, at, silent) = silent_at t i line e h in
-      driven_is (machine_of s) (places_of s) (first_tracks s) t i k at ∙ (quarter_alone s none t k ∙ (drive_silent t k silent).quarter)
+      driven_is (machine_of s) (taps_of s) (first_tracks s) t i k at ∙ (quarter_alone s none t k ∙ (drive_silent t k silent).quarter)

@@ -11,7 +11,7 @@ use Rattle.t1s_script.specs.declared.script.Act.{Act}
 use Rattle.t1s_script.specs.declared.script.NodeLine.{NodeLine}
 use Rattle.t1s_line.specs.Acts.{has_act, is_noisy}
 use Rattle.t1s_line.specs.Outcomes.{DriveOutcome, HearOutcome, NodePhases, machine_with}
-use Rattle.t1s_line.specs.Runs.{nodes_in, places_in}
+use Rattle.t1s_line.specs.Runs.{nodes_in, taps_in}
 
 -- of a drive phase comes nothing but the status, and of a hear phase nothing at all
 abbrev pub quiet_drive : Bool → DriveOutcome
@@ -54,4 +54,4 @@ pub record IsCalmIn {N : Type 0} (p : NodePhases N) (calm : ℕ → N → Type 0
   pub no_act : has_act acts t ≡ false
   pub no_noise : is_noisy acts t ≡ false
   pub nodes : All (calm t) (nodes_in p acts lines first t)
-  pub unreached : (j : ℕ) → j < length lines → heard_at (machine_with p acts) (places_in lines) first t j ≡ Nothing
+  pub unreached : (j : ℕ) → j < length lines → heard_at (machine_with p acts) (taps_in lines) first t j ≡ Nothing

@@ -6,9 +6,10 @@ use Rattle.t1s_world.specs.World.{heard_at}
 use Rattle.plca_control.specs.StatusTable.{status_is_ok}
 use Rattle.t1s_node.specs.CalmNode.{IsCalmNode, node_after_silence}
 use Rattle.t1s_script.specs.declared.script.Script.{Script}
+use Rattle.t1s_script.specs.Taps.{taps_of}
 use Rattle.t1s_line.specs.declared.track.Track.{Track}
 use Rattle.t1s_line.specs.Acts.{has_act, is_noisy}
-use Rattle.t1s_line.specs.World.{driven_in, events_at, first_tracks, machine_of, places_of, start_of, world}
+use Rattle.t1s_line.specs.World.{driven_in, events_at, first_tracks, machine_of, start_of, world}
 
 -- A tick is calm where all of these hold. No act has it, no noise lasts in it, and no node starts in it. No node drives in it, and no
 -- node, started or not, is reached by a quarter that another node drove. To each node that has started nothing happens: it is at rest
@@ -18,7 +19,7 @@ pub record IsCalm (s : Script) (t : ℕ) : Type 0 where
   pub no_noise : is_noisy s.acts t ≡ false
   pub no_start : (j : ℕ) → j < length s.nodes → start_of s j ≢ t
   pub no_drive : (i : ℕ) → driven_in s i t ≡ None
-  pub unreached : (j : ℕ) → j < length s.nodes → heard_at (machine_of s) (places_of s) (first_tracks s) t j ≡ Nothing
+  pub unreached : (j : ℕ) → j < length s.nodes → heard_at (machine_of s) (taps_of s) (first_tracks s) t j ≡ Nothing
   pub nodes : All (λ (k : Track). k.start ≤ t → IsCalmNode k.node) (world s t).nodes
 
 -- In a calm tick nothing happens.

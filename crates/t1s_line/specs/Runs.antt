@@ -2,6 +2,7 @@
 use Rattle.std.specs.Prelude.{ℕ, zero, suc, ◌==◌, Bool, false, List, ◌++◌, Option, None, map, get_or, position}
 use Rattle.std.specs.Option.{option_map}
 use Rattle.std.specs.List.{flat_map, list_all}
+use Rattle.t1s_harness.specs.declared.Tap.{Tap}
 use Rattle.t1s_symbols.specs.declared.Heard.{Heard}
 use Rattle.t1s_symbols.specs.declared.Heard.TheVariants.{Nothing}
 use Rattle.t1s_world.specs.Events.{first_below}
@@ -9,6 +10,7 @@ use Rattle.t1s_world.specs.Lists.{each_with}
 use Rattle.t1s_world.specs.World.{past, drive_outcomes, hear_outcomes_at}
 use Rattle.t1s_script.specs.declared.script.Act.{Act}
 use Rattle.t1s_script.specs.declared.script.NodeLine.{NodeLine}
+use Rattle.t1s_script.specs.Taps.{tap_of}
 use Rattle.t1s_line.specs.declared.offers.OfferState.{OfferState}
 use Rattle.t1s_line.specs.declared.totals.NodeTotals.{NodeTotals}
 use Rattle.t1s_line.specs.Acts.{offers_at}
@@ -17,9 +19,9 @@ use Rattle.t1s_line.specs.Offers.{OfferRecord, offer_event, records_of, first_st
 use Rattle.t1s_line.specs.Outcomes.{DriveOutcome, HearOutcome, NodePhases, machine_with}
 use Rattle.t1s_line.specs.Totals.{no_totals, after_refusals, after_driving, after_hearing}
 
--- the places of the nodes
-abbrev pub places_in : List NodeLine → List ℕ
-places_in lines = map (λ (n : NodeLine). n.place) lines
+-- where the nodes hang on the pair
+abbrev pub taps_in : List NodeLine → List Tap
+taps_in lines = map tap_of lines
 
 -- what a node heard in a tick, and whether it drove in it
 abbrev pub heard_tick : HearOutcome → Heard × Bool
@@ -38,7 +40,7 @@ are_ok ds = list_all (λ (d : DriveOutcome). d.ok) ds
 module _ {N : Type 0} (p : NodePhases N) (acts : List Act) (lines : List NodeLine) (first : List N) where
   -- what the nodes keep before tick t
   abbrev pub nodes_in : ℕ → List N
-  nodes_in t = (past (machine_with p acts) (places_in lines) first t).nodes
+  nodes_in t = (past (machine_with p acts) (taps_in lines) first t).nodes
 
   -- what becomes of the offers of tick t, in the order of their lines
   unfoldable pub records_in : ℕ → List OfferRecord
@@ -49,7 +51,7 @@ module _ {N : Type 0} (p : NodePhases N) (acts : List Act) (lines : List NodeLin
   drives_in t = drive_outcomes (machine_with p acts) t (nodes_in t)
 
   unfoldable pub hearings_in : ℕ → List HearOutcome
-  hearings_in t = hear_outcomes_at (machine_with p acts) (places_in lines) first t
+  hearings_in t = hear_outcomes_at (machine_with p acts) (taps_in lines) first t
 
   -- the events of tick t: of the offers in the order of their lines, then of the nodes ascending, and then their arrivals
   unfoldable pub events_in : ℕ → List EventRecord

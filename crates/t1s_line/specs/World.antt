@@ -20,6 +20,7 @@ use Rattle.t1s_node.specs.declared.settings.NodeSet.{NodeSet}
 use Rattle.t1s_node.specs.Node.{node_start}
 use Rattle.t1s_script.specs.declared.script.Script.{Script}
 use Rattle.t1s_script.specs.declared.script.NodeLine.{NodeLine}
+use Rattle.t1s_script.specs.Taps.{taps_of}
 use Rattle.t1s_line.specs.declared.offers.OfferOutcome.{OfferOutcome}
 use Rattle.t1s_line.specs.declared.offers.OfferOutcome.TheVariants.{Taken, Full, Off}
 use Rattle.t1s_line.specs.declared.offers.Wait.{Wait}
@@ -30,7 +31,7 @@ use Rattle.t1s_line.specs.Acts.{with_noise}
 use Rattle.t1s_line.specs.EventRecords.{EventRecord}
 use Rattle.t1s_line.specs.Offers.{OfferRecord, is_offered, leaves_number}
 use Rattle.t1s_line.specs.Outcomes.{DriveOutcome, HearOutcome, machine_with}
-use Rattle.t1s_line.specs.Runs.{places_in, records_in, drives_in, hearings_in, events_in, settled_in}
+use Rattle.t1s_line.specs.Runs.{records_in, drives_in, hearings_in, events_in, settled_in}
 use Rattle.t1s_line.specs.Totals.{is_full_at, is_sent, is_jam, is_drop, arrives_good, arrives_bad}
 use Rattle.t1s_line.specs.Track.{track_phases}
 
@@ -65,9 +66,6 @@ first_track s n = record {
 abbrev pub first_tracks : Script → List Track
 first_tracks s = map (first_track s) s.nodes
 
-abbrev pub places_of : Script → List ℕ
-places_of s = places_in s.nodes
-
 -- ---- the world
 
 -- the machine of a script's nodes among its acts
@@ -76,11 +74,11 @@ machine_of s = machine_with track_phases s.acts
 
 -- the world of a script when the ticks below t have been played
 abbrev pub world : Script → ℕ → Past Track
-world s t = past (machine_of s) (places_of s) (first_tracks s) t
+world s t = past (machine_of s) (taps_of s) (first_tracks s) t
 
 -- what the node at position i of the script drives in tick t
 abbrev pub driven_in : Script → ℕ → ℕ → Option Quarter
-driven_in s i t = driven_at (machine_of s) (places_of s) (first_tracks s) t i
+driven_in s i t = driven_at (machine_of s) (taps_of s) (first_tracks s) t i
 
 -- ---- what happens
 
@@ -180,7 +178,7 @@ start_of s j = get_or (map (λ (n : NodeLine). n.start) s.nodes) j 0
 -- what the cable brings
 unfoldable pub heard_in : Script → ℕ → ℕ → Heard
 heard_in s j t =
-    if nat_lt t (start_of s j) then Nothing else with_noise s.acts t (heard_at (machine_of s) (places_of s) (first_tracks s) t j)
+    if nat_lt t (start_of s j) then Nothing else with_noise s.acts t (heard_at (machine_of s) (taps_of s) (first_tracks s) t j)
 
 -- what it hears in tick t, and whether it drives in it
 abbrev pub tick_in : Script → ℕ → ℕ → Heard × Bool

@@ -17,12 +17,13 @@ pub fn frameless_nodes_beacon()
 {}
 
 /// Of each script, fit or not: the clash counter of a node after the first ticks of the run, however many, is the number of
-/// those ticks from its start on in which a noise lasts, or two drives are over its place, each as late as its node is away.
+/// those ticks from its start on in which a noise lasts, or two drives are over its point, which is the end of its stub, each
+/// as late as its node is away.
 pub fn clashes_are_meetings()
     ensures { ClashesAreMeetings }
 {}
 
-/// Where the clash counter of a node is 0, no two drives are over its place in one of those ticks from its start on.
+/// Where the clash counter of a node is 0, no two drives are over its point in one of those ticks from its start on.
 pub fn none_counted_none_meet()
     ensures { NoneCountedNoneMeet }
 {}

@@ -12,9 +12,8 @@ use Rattle.t1s_script.specs.Script.{IsScript, IsNodeLine}
 use Rattle.t1s_script.specs.declared.script.Script.{Script}
 use Rattle.t1s_script.specs.declared.script.NodeLine.{NodeLine}
 use Rattle.t1s_line.specs.World.{node_set_of, start_of}
-use Rattle.t1s_schedule.specs.SharedLine.{at_in, has_id, owner_in}
+use Rattle.t1s_schedule.specs.SharedLine.{has_id, owner_in}
 use Rattle.t1s_schedule.proofs.FitIds.{all_at}
-use Rattle.t1s_schedule.proofs.FitDistances.{point_is}
 
 -- what a node is set to for the cycle, with this timer, and with that of the script
 abbrev pub cycle_with : Script → NodeLine → ℕ → CycleSettings
@@ -33,7 +32,6 @@ pub record FitNode (s : Script) (j : ℕ) (line : NodeLine) : Type 0 where
   pub is_cycle : IsCycleSettings (cycle_in s line)
   pub owns : (x : ℕ) → (cycle_in s line).owns x ≡ owner_in s j x
   pub start : start_of s j ≡ line.start
-  pub point : at_in s j ≡ line.place
 
 same_test : (a b : ℕ) → (a == b) ≡ (b == a)
 same_test a b = elim (cases_eq a b) [
@@ -86,5 +84,4 @@ module _ (s : Script) (script : IsScript s) (fit : IsFit s) (j : ℕ) (line : No
     is_cycle = cycle_is;
     owns = λ x. same_test x line.id ∙ ap (has_id x) (sym at);
     start = get_or-map (λ (n : NodeLine). n.start) s.nodes j line 0 at;
-    point = point_is s j line at;
   }

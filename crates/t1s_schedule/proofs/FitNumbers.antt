@@ -10,10 +10,11 @@ use Rattle.t1s_node.specs.Node.{IsNodeSet}
 use Rattle.t1s_turns.specs.NodeOverWaves.{cycle_of}
 use Rattle.t1s_line.specs.World.{node_set_of}
 use Rattle.t1s_world.specs.Schedule.{IsFar, AreOwners}
-use Rattle.t1s_script.specs.Fit.{IsFit, span_of}
+use Rattle.t1s_script.specs.Fit.{IsFit}
 use Rattle.t1s_script.specs.Script.{IsScript}
 use Rattle.t1s_script.specs.declared.script.Script.{Script}
 use Rattle.t1s_script.specs.declared.script.NodeLine.{NodeLine}
+use Rattle.t1s_script.specs.Taps.{span_of}
 use Rattle.t1s_line.specs.Acts.{offers_to, with_noise}
 use Rattle.t1s_schedule.specs.SharedLine.{far_in, at_in, owner_in, IsCoordinator}
 use Rattle.t1s_schedule.proofs.FitIds.{are_owners, coordinator, line_owner}

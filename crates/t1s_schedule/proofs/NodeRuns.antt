@@ -11,11 +11,12 @@ use Rattle.t1s_world.proofs.ListLemmas.{slice_get-map}
 use Rattle.t1s_world.proofs.WorldLemmas.{past-zero, kept_next, driven_is}
 use Rattle.t1s_script.specs.declared.script.NodeLine.{NodeLine}
 use Rattle.t1s_script.specs.declared.script.Script.{Script}
+use Rattle.t1s_script.specs.Taps.{taps_of}
 use Rattle.t1s_line.specs.declared.track.Track.{Track}
 use Rattle.t1s_line.specs.Acts.{offers_to, with_noise}
 use Rattle.t1s_line.specs.Outcomes.{with_offers}
 use Rattle.t1s_line.specs.Track.{track_phases, offered_track, drive_track, driven_track, hear_track, hearing_track}
-use Rattle.t1s_line.specs.World.{machine_of, world, places_of, first_track, first_tracks, node_set_of, draws_of, driven_in}
+use Rattle.t1s_line.specs.World.{machine_of, world, first_track, first_tracks, node_set_of, draws_of, driven_in}
 use Rattle.t1s_line.proofs.HeardTicks.{offer_before, offer_started, drive_before, drive_started, hear_before, hear_started}
 
 -- ---- one tick of a node of the world
@@ -55,7 +56,7 @@ module _ (t : ℕ) (qs : List Queued) (k : Track) where
 module _ (s : Script) (j : ℕ) (line : NodeLine) (there : slice_get s.nodes j ≡ Some line) where
   -- what it hears in tick t of the world, once it has started
   abbrev pub hears_in : ℕ → Heard
-  hears_in t = with_noise s.acts t (heard_at (machine_of s) (places_of s) (first_tracks s) t j)
+  hears_in t = with_noise s.acts t (heard_at (machine_of s) (taps_of s) (first_tracks s) t j)
 
   -- what comes to it in its own tick u
   abbrev pub given : ℕ → NodeTick
@@ -66,17 +67,17 @@ module _ (s : Script) (j : ℕ) (line : NodeLine) (there : slice_get s.nodes j �
 
   -- before its start it stays as it is at first
   pub waits_until : (t : ℕ) → t ≤ line.start → slice_get (world s t).nodes j ≡ Some (first_track s line)
-  waits_until zero le = rw (past-zero (machine_of s) (places_of s) (first_tracks s)) (slice_get-map (first_track s) s.nodes j line there)
+  waits_until zero le = rw (past-zero (machine_of s) (taps_of s) (first_tracks s)) (slice_get-map (first_track s) s.nodes j line there)
   waits_until (suc t) le =
       let k : Track = first_track s line in
       let before = waits_until t (omega (arith, le)) in
-      kept_next (machine_of s) (places_of s) (first_tracks s) t j k before
+      kept_next (machine_of s) (taps_of s) (first_tracks s) t j k before
       ∙ ap Some (kept_before t (offers_to s.acts t k.no) k (hears_in t) (omega (arith, le)))
 
   pub drives_before : (t : ℕ) → t < line.start → driven_in s j t ≡ None
   drives_before t lt =
       let k : Track = first_track s line in
-      driven_is (machine_of s) (places_of s) (first_tracks s) t j k (waits_until t (omega (arith, lt))) ∙ quarter_before t (offers_to s.acts t k.no) k lt
+      driven_is (machine_of s) (taps_of s) (first_tracks s) t j k (waits_until t (omega (arith, lt))) ∙ quarter_before t (offers_to s.acts t k.no) k lt
 
   -- the world at its own tick u
   pub record RunsAt (u : ℕ) : Type 0 where
@@ -97,7 +98,7 @@ module _ (s : Script) (j : ℕ) (line : NodeLine) (there : slice_get s.nodes j �
       let t : ℕ = line.start + u in
       let ge : k.start ≤ t = omega (arith, r.start) in
       let e : line.start + suc u ≡ suc (line.start + u) = omega arith in
-      let next = kept_next (machine_of s) (places_of s) (first_tracks s) t j k r.found ∙ ap Some (kept_from t (offers_to s.acts t k.no) k (hears_in t) ge) in
+      let next = kept_next (machine_of s) (taps_of s) (first_tracks s) t j k r.found ∙ ap Some (kept_from t (offers_to s.acts t k.no) k (hears_in t) ge) in
       record {
         track = hearing_track (hears_in t) (driven_track (with_offered t (offers_to s.acts t k.no) k));
         found = rw e next;
@@ -112,6 +113,6 @@ module _ (s : Script) (j : ℕ) (line : NodeLine) (there : slice_get s.nodes j �
       let r = runs_at u in
       let k : Track = r.track in
       let t : ℕ = line.start + u in
-      driven_is (machine_of s) (places_of s) (first_tracks s) t j k r.found
+      driven_is (machine_of s) (taps_of s) (first_tracks s) t j k r.found
       ∙ (quarter_from t (offers_to s.acts t k.no) k (omega (arith, r.start))
       ∙ ap₂ (λ (x : NodeState) (no : ℕ). (node_drive (node_after_offers x (offers_to s.acts t no))).1.quarter) r.node r.no)

@@ -1,10 +1,11 @@
 -- The drives of a fit script so far are waves at each node, which hears them and drives in its own.
-use Rattle.std.proofs.Common.{◌≡◌, ℕ, ◌+◌, ◌-◌, ◌*◌, ◌<◌, ◌≤◌, ◌⊎◌, inl, inr, Bool, true, false, ◌||◌, nat_lt, ◌==◌, List, [], ◌∷◌, length, get_or, Option, Some, None, is_some, slice_get, refl, sym, ◌∙◌, ap, subst, arith, rules}
-use Rattle.std.specs.Int.{abs_diff}
+use Rattle.std.proofs.Common.{◌≡◌, ℕ, ◌+◌, ◌-◌, ◌*◌, ◌<◌, ◌≤◌, ◌⊎◌, inl, inr, Bool, true, false, ◌||◌, nat_lt, ◌==◌, List, [], ◌∷◌, length, Option, Some, None, is_some, slice_get, refl, sym, ◌∙◌, ap, subst, arith, rules}
 use Rattle.std.proofs.lemmas.Bool.{cases_lt, cases_eq}
 use Rattle.std.proofs.lemmas.Bool.Decides.{nat_tests}
 use Rattle.std.proofs.lemmas.List.{length-map}
 use Rattle.std.proofs.lemmas.Option.{slice_get_within}
+use Rattle.t1s_harness.specs.Distances.{distance}
+use Rattle.t1s_harness.proofs.Distances.{distance_symm, far_point}
 use Rattle.t1s_symbols.specs.declared.Heard.{Heard}
 use Rattle.t1s_symbols.specs.declared.Heard.TheVariants.{Nothing, One}
 use Rattle.t1s_symbols.specs.declared.Quarter.{Quarter}
@@ -18,8 +19,8 @@ use Rattle.t1s_world.proofs.SingleSender.{hears_one, hears_none}
 use Rattle.t1s_turns.specs.ReceiverOverWaves.{HeardOverWaves, nobody, drives, rests, theirs}
 use Rattle.t1s_script.specs.declared.script.NodeLine.{NodeLine}
 use Rattle.t1s_script.specs.declared.script.Script.{Script}
-use Rattle.t1s_script.specs.Fit.{span_of}
-use Rattle.t1s_line.specs.World.{machine_of, places_of, first_tracks, start_of, driven_in}
+use Rattle.t1s_script.specs.Taps.{span_of, tap_of, taps_of}
+use Rattle.t1s_line.specs.World.{machine_of, first_tracks, start_of, driven_in}
 use Rattle.t1s_turns.specs.NodeOverWaves.{HearsWaves}
 use Rattle.t1s_line.specs.World.{node_set_of, draws_of}
 use Rattle.t1s_schedule.specs.SharedLine.{far_in, at_in, owner_in, has_id, first_beacon}
@@ -60,7 +61,7 @@ module _ (s : Script) (z : ℕ) (fit : FitCable s z) (j : ℕ) (line : NodeLine)
   pub first_is : j ≡ z → first_beacon s z ≡ line.start + 258 * s.to
   first_is e = ap (λ (k : ℕ). start_of s k + 258 * s.to) (sym e) ∙ ap (λ (b : ℕ). b + 258 * s.to) starts_at
 
-  -- ---- the waves at its place
+  -- ---- the waves at its point
 
   -- how late a node's drive comes there
   abbrev pub way : ℕ → ℕ
@@ -89,7 +90,7 @@ module _ (s : Script) (z : ℕ) (fit : FitCable s z) (j : ℕ) (line : NodeLine)
   older_past v a [] behind come = tt
   older_past v a (b ∷ ds) behind come = all_past v b ds behind.2 (omega (arith, come, behind.1.gap))
 
-  -- which drive passes the place in tick v: none, or one
+  -- which drive passes the point in tick v: none, or one
   data Passing (v : ℕ) (ds : List Drive) : Type 0 where
     none : ((k : ℕ) → way k ≤ v → drives_in ds k (v - way k) ≡ false)
         → (arrived (v + 1) (waves ds) ≡ []) ⊎ ((w : Wave) × (rest : List Wave) × (arrived (v + 1) (waves ds) ≡ w ∷ rest) × (w.till ≤ v)) → Passing v ds
@@ -160,21 +161,18 @@ module _ (s : Script) (z : ℕ) (fit : FitCable s z) (j : ℕ) (line : NodeLine)
   -- ---- what it hears
 
   module _ (t : ℕ) (ds : List Drive) (shared : SharedAt s z t ds) (v : ℕ) (before : v < t) where
-    abbrev places : List ℕ
-    places = places_of s
-
     abbrev hears : Heard
-    hears = heard_at (machine_of s) (places_of s) (first_tracks s) v j
+    hears = heard_at (machine_of s) (taps_of s) (first_tracks s) v j
 
     -- the way is the same from either end
-    both_ways : (k : ℕ) → abs_diff (get_or places j 0) (get_or places k 0) ≡ way k
-    both_ways k = omega arith
+    both_ways : (k : ℕ) → distance (taps_of s) j k ≡ way k
+    both_ways k = distance_symm (taps_of s) j k ∙ sym (far_point (taps_of s) k j)
 
     no_way : way j ≡ 0
     no_way = fit.far.self j
 
-    not_driven : (k : ℕ) → abs_diff (get_or places j 0) (get_or places k 0) ≤ v → drives_in ds k (v - way k) ≡ false
-        → driven_at (machine_of s) (places_of s) (first_tracks s) (v - abs_diff (get_or places j 0) (get_or places k 0)) k ≡ None
+    not_driven : (k : ℕ) → distance (taps_of s) j k ≤ v → drives_in ds k (v - way k) ≡ false
+        → driven_at (machine_of s) (taps_of s) (first_tracks s) (v - distance (taps_of s) j k) k ≡ None
     not_driven k near e =
         let same = both_ways k in
         rw same (none_of (driven_in s k (v - way k)) (shared.covers k (v - way k) (omega (arith, before)) ∙ e))
@@ -184,7 +182,7 @@ module _ (s : Script) (z : ℕ) (fit : FitCable s z) (j : ℕ) (line : NodeLine)
 
     hears_nothing : ((k : ℕ) → (k ≡ j → ⊥) → way k ≤ v → drives_in ds k (v - way k) ≡ false) → hears ≡ Nothing
     hears_nothing silent =
-        hears_none (machine_of s) (places_of s) (first_tracks s) v j (λ k within other near. not_driven k near (silent k other (omega (arith, near, both_ways k))))
+        hears_none (machine_of s) (taps_of s) (first_tracks s) v j (λ k within other near. not_driven k near (silent k other (omega (arith, near, both_ways k))))
 
     own_drive : drives_in ds j v ≡ is_some (driven_in s j v)
     own_drive = sym (shared.covers j v before)
@@ -212,11 +210,11 @@ module _ (s : Script) (z : ℕ) (fit : FitCable s z) (j : ℕ) (line : NodeLine)
           let flag : (a.node == j) ≡ false = grind (arith, nat_tests, other) in
           let m : ℕ = v - way a.node - a.start in
           let (q, driven, spelled) = spells m (omega (arith, there, on)) in
-          let late : ℕ = abs_diff (get_or places j 0) (get_or places a.node 0) in
+          let late : ℕ = distance (taps_of s) j a.node in
           let now : v - late ≡ a.start + m = omega (arith, there, both_ways a.node) in
-          let within : a.node < length (places_of s) = omega (arith, node.node, length-map s.nodes (λ (n : NodeLine). n.place)) in
+          let within : a.node < length (taps_of s) = omega (arith, node.node, length-map s.nodes tap_of) in
           let at = ap (λ (u : ℕ). driven_in s a.node u) now ∙ driven in
-          let single = hears_one (machine_of s) (places_of s) (first_tracks s) v j a.node q within other (omega (arith, both_ways a.node, there)) at
+          let single = hears_one (machine_of s) (taps_of s) (first_tracks s) v j a.node q within other (omega (arith, both_ways a.node, there)) at
           (λ k below apart not_mine near. not_driven k near (only k (omega (arith, near, both_ways k)) ∙ another a.node k apart)) in
           let rested = sym itself ∙ (only j (omega (arith, no_way)) ∙ flag) in
           let heard = spells_as (own_wave s a) (wave a) m q refl spelled in
@@ -236,6 +234,6 @@ module _ (s : Script) (z : ℕ) (fit : FitCable s z) (j : ℕ) (line : NodeLine)
   hears_waves t ds shared u before =
       let v : ℕ = line.start + u in
       let over = heard_over t ds shared v before in
-      let quiet = sym (fit.quiet v (heard_at (machine_of s) (places_of s) (first_tracks s) v j)) in
+      let quiet = sym (fit.quiet v (heard_at (machine_of s) (taps_of s) (first_tracks s) v j)) in
       let drive = drives_from s j line found u in
       rw (quiet, drive) at over

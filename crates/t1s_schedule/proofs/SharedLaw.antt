@@ -1,10 +1,11 @@
 -- The drives of a fit script's first ticks are a schedule, and no two of them overlap.
 use Rattle.std.proofs.Common.{◌≡◌, ℕ, ◌+◌, Bool, true, false, List, length, Option, refl, sym, ◌∙◌, ap, arith}
+use Rattle.t1s_harness.specs.Distances.{Point}
 use Rattle.t1s_symbols.specs.declared.Quarter.{Quarter}
 use Rattle.t1s_world.specs.Schedule.{Drive, IsOfNode, NoOverlap, next_after}
 use Rattle.t1s_world.proofs.Overlaps.{no_overlap}
 use Rattle.t1s_script.specs.declared.script.Script.{Script}
-use Rattle.t1s_script.specs.Fit.{span_of}
+use Rattle.t1s_script.specs.Taps.{span_of, taps_of}
 use Rattle.t1s_line.specs.World.{driven_in}
 use Rattle.t1s_turns.specs.ReceiverOverWaves.{first_symbol}
 use Rattle.t1s_schedule.specs.SharedLine.{far_in, at_in, first_beacon, is_beacon_symbol, begins_beacon, IsSchedule}
@@ -24,7 +25,7 @@ module _ (s : Script) (z : ℕ) (fit : FitCable s z) (t : ℕ) (ds : List Drive)
       by true = refl
       by false = refl
 
-  pub none_overlap : (p : ℕ) → NoOverlap (far_in s) p ds
+  pub none_overlap : (p : Point (taps_of s)) → NoOverlap (far_in s) p ds
   none_overlap p = no_overlap next_after (far_in s) (at_in s) s.rise s.fall s.to (length s.nodes) (span_of s) fit.far p z (first_beacon s z) ds shared.chain
 
   pub schedule_of : IsSchedule s z t ds

@@ -6,7 +6,8 @@ use Rattle.t1s_symbols.specs.declared.Quarter.{Quarter}
 use Rattle.t1s_world.specs.Schedule.{Drive}
 use Rattle.t1s_world.proofs.WorldLemmas.{driven_past}
 use Rattle.t1s_script.specs.declared.script.Script.{Script}
-use Rattle.t1s_line.specs.World.{machine_of, places_of, first_track, first_tracks, driven_in}
+use Rattle.t1s_script.specs.Taps.{taps_of}
+use Rattle.t1s_line.specs.World.{machine_of, first_track, first_tracks, driven_in}
 use Rattle.t1s_schedule.proofs.SharedState.{FitCable, SharedAt}
 use Rattle.t1s_schedule.proofs.QuietTicks.{stays}
 use Rattle.t1s_schedule.proofs.DrivenTicks.{drives_on}
@@ -23,7 +24,7 @@ module _ (s : Script) (z : ℕ) (fit : FitCable s z) (t : ℕ) where
   NoneDrives = (i : ℕ) → driven_in s i t ≡ None
 
   no_node : (i : ℕ) → length s.nodes ≤ i → driven_in s i t ≡ None
-  no_node i past = driven_past (machine_of s) (places_of s) (first_tracks s) t i (omega (arith, past, length-map s.nodes (first_track s)))
+  no_node i past = driven_past (machine_of s) (taps_of s) (first_tracks s) t i (omega (arith, past, length-map s.nodes (first_track s)))
 
   first_driver : (k : ℕ) → ((i : ℕ) → i < k → driven_in s i t ≡ None) ⊎ ((i : ℕ) × (q : Quarter) × (i < k) × (driven_in s i t ≡ Some q))
   first_driver zero = inl (λ i lt. absurd (omega (arith, lt)))

@@ -13,7 +13,7 @@ use Rattle.t1s_world.proofs.DriveStarts.{sees_newest, starts_follow}
 use Rattle.t1s_world.proofs.SeenWaves.{head_is}
 use Rattle.t1s_script.specs.declared.script.NodeLine.{NodeLine}
 use Rattle.t1s_script.specs.declared.script.Script.{Script}
-use Rattle.t1s_script.specs.Fit.{span_of}
+use Rattle.t1s_script.specs.Taps.{span_of}
 use Rattle.t1s_line.specs.World.{node_set_of, draws_of, driven_in}
 use Rattle.t1s_turns.specs.DriveOverWaves.{DriveOverWaves, quiet, goes_on, ends, starts_first_beacon, starts_beacon, starts_run}
 use Rattle.t1s_turns.specs.ReceiverOverWaves.{SpellsWave, first_symbol}

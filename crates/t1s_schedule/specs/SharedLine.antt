@@ -1,25 +1,26 @@
 -- What the drives of a run are on a fit script: a schedule (IEEE 802.3 clause 148: opportunities follow one another in the order
 -- of the IDs).
-use Rattle.std.specs.Prelude.{◌≡◌, ◌↔◌, ℕ, ◌+◌, ◌*◌, Bool, true, false, ◌==◌, List, length, get_or, Option, None, Some, Contains, slice_get}
+use Rattle.std.specs.Prelude.{◌≡◌, ◌↔◌, ℕ, ◌+◌, ◌*◌, Bool, true, false, ◌==◌, List, length, Option, None, Some, Contains, slice_get}
+use Rattle.t1s_harness.specs.Distances.{Point, far, point_at}
 use Rattle.t1s_symbols.specs.declared.Quarter.{Quarter}
 use Rattle.t1s_symbols.specs.declared.Symbol.{Symbol}
 use Rattle.t1s_symbols.specs.declared.Symbol.TheVariants.{N}
 use Rattle.t1s_world.specs.Drives.{IsDrive}
-use Rattle.t1s_world.specs.Hearing.{distance}
 use Rattle.t1s_world.specs.Schedule.{Drive, EachDrive, IsChain, IsPlaced, IsSilent, next_after}
 use Rattle.t1s_script.specs.declared.script.Script.{Script}
 use Rattle.t1s_script.specs.declared.script.NodeLine.{NodeLine}
-use Rattle.t1s_line.specs.World.{driven_in, places_of, start_of}
+use Rattle.t1s_script.specs.Taps.{taps_of}
+use Rattle.t1s_line.specs.World.{driven_in, start_of}
 
 -- ---- the cable and the IDs of a script
 
--- how far a whole point of the cable is from the node at position i, in bit times
-abbrev pub far_in : Script → ℕ → ℕ → ℕ
-far_in s i p = distance (get_or (places_of s) i 0) p
+-- how far a point of the cable, of the trunk or of a stub, is from the node at position i, in bit times
+abbrev pub far_in : (s : Script) → ℕ → Point (taps_of s) → ℕ
+far_in s i p = far (taps_of s) i p
 
 -- the point of the node at position i
-abbrev pub at_in : Script → ℕ → ℕ
-at_in s i = get_or (places_of s) i 0
+abbrev pub at_in : (s : Script) → ℕ → Point (taps_of s)
+at_in s i = point_at (taps_of s) i
 
 -- whether the node at position i has the ID x
 abbrev pub has_id : ℕ → Option NodeLine → Bool

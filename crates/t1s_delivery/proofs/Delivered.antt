@@ -8,10 +8,11 @@ use Rattle.t1s_ring.specs.declared.queued.Queued.{Queued}
 use Rattle.t1s_mac.specs.PickedDraws.{picked_answer, picked_after}
 use Rattle.t1s_node.specs.Runs.{leaves_at}
 use Rattle.t1s_world.specs.Schedule.{Drive}
-use Rattle.t1s_script.specs.Fit.{longest_drive, span_of, start_bound}
+use Rattle.t1s_script.specs.Fit.{longest_drive, start_bound}
 use Rattle.t1s_script.specs.Script.{IsScript}
 use Rattle.t1s_script.specs.declared.script.NodeLine.{NodeLine}
 use Rattle.t1s_script.specs.declared.script.Script.{Script}
+use Rattle.t1s_script.specs.Taps.{span_of}
 use Rattle.t1s_line.specs.Happenings.{IsTaking, IsLeaving, IsArrival}
 use Rattle.t1s_line.specs.World.{settled_below}
 use Rattle.t1s_schedule.specs.DriveContents.{IsOfferTo}

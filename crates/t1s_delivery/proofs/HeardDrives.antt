@@ -17,7 +17,8 @@ use Rattle.t1s_world.specs.Schedule.{Drive, IsOfNode}
 use Rattle.t1s_world.specs.World.{heard_at}
 use Rattle.t1s_script.specs.declared.script.NodeLine.{NodeLine}
 use Rattle.t1s_script.specs.declared.script.Script.{Script}
-use Rattle.t1s_line.specs.World.{machine_of, places_of, first_tracks, driven_in, piece_at}
+use Rattle.t1s_script.specs.Taps.{taps_of}
+use Rattle.t1s_line.specs.World.{machine_of, first_tracks, driven_in, piece_at}
 use Rattle.t1s_schedule.proofs.ExactDrives.{Has, each_at}
 use Rattle.t1s_schedule.proofs.NodeRuns.{given, drives_from}
 use Rattle.t1s_schedule.proofs.SharedState.{FitCable, SharedAt, IsSpelled, of_nodes}
@@ -107,7 +108,7 @@ module _ (s : Script) (z : ℕ) (fit : FitCable s z) (j : ℕ) (line : NodeLine)
           let (q, driven, spells) = speaks (missed + m) within in
           let at : now - way ≡ d.start + (missed + m) = omega (arith, now_is) in
           let heard = hears_quarter s z fit j line found t ds shared d has other now before passes q (ap (driven_in s d.node) at ∙ driven) in
-          let quiet = fit.quiet now (heard_at (machine_of s) (places_of s) (first_tracks s) now j) in
+          let quiet = fit.quiet now (heard_at (machine_of s) (taps_of s) (first_tracks s) now j) in
           heard_quarter symbols (missed + m) q (sym (spelled (missed + m) within) ∙ driven) ∙ ap Some (sym (quiet ∙ heard))
 
     -- it hears so many ticks of the drive

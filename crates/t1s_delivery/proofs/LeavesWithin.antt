@@ -8,10 +8,11 @@ use Rattle.t1s_node.specs.Laws.{LeavesAt}
 use Rattle.t1s_node.specs.Runs.{CoreTick, found_at, active_at, leaves_at}
 use Rattle.t1s_world.specs.Schedule.{Drive, EachDrive}
 use Rattle.t1s_world.specs.Waves.{EachWave}
-use Rattle.t1s_script.specs.Fit.{span_of, start_bound}
+use Rattle.t1s_script.specs.Fit.{start_bound}
 use Rattle.t1s_script.specs.Script.{IsScript}
 use Rattle.t1s_script.specs.declared.script.NodeLine.{NodeLine}
 use Rattle.t1s_script.specs.declared.script.Script.{Script}
+use Rattle.t1s_script.specs.Taps.{span_of}
 use Rattle.t1s_line.specs.Acts.{offers_to}
 use Rattle.t1s_line.specs.World.{node_set_of, set_of, draws_of}
 use Rattle.t1s_turns.specs.NextOpportunity.{LastsAtMost}

@@ -20,13 +20,14 @@ use Rattle.t1s_world.proofs.ListLemmas.{get_or-map, slice_get-map}
 use Rattle.t1s_world.proofs.WorldLemmas.{hear_outcome_is}
 use Rattle.t1s_script.specs.declared.script.NodeLine.{NodeLine}
 use Rattle.t1s_script.specs.declared.script.Script.{Script}
+use Rattle.t1s_script.specs.Taps.{taps_of}
 use Rattle.t1s_line.specs.declared.track.Track.{Track}
 use Rattle.t1s_line.specs.Acts.{offers_to}
 use Rattle.t1s_line.specs.Happenings.{IsLeaving}
 use Rattle.t1s_line.specs.Outcomes.{DriveOutcome, HearOutcome, with_offers}
 use Rattle.t1s_line.specs.Runs.{drives_in, hearings_in}
 use Rattle.t1s_line.specs.Track.{track_phases, drive_track, driven_track, hear_track}
-use Rattle.t1s_line.specs.World.{machine_of, world, places_of, first_track, first_tracks, drives_at, hearings_at, piece_at, driven_in}
+use Rattle.t1s_line.specs.World.{machine_of, world, first_track, first_tracks, drives_at, hearings_at, piece_at, driven_in}
 use Rattle.t1s_line.proofs.HeardTicks.{drive_before, drive_started, hear_before, hear_started}
 use Rattle.t1s_line.proofs.ScriptNodes.{length-world, length-drives, length-hearings}
 use Rattle.t1s_node.proofs.FrameWays.{leaves_is}
@@ -106,7 +107,7 @@ module _ (s : Script) (j : ℕ) (line : NodeLine) (found : slice_get s.nodes j �
       ≡ (hear_track t (hears_in s j line found t) (drive_track t (with_offers track_phases t (offers_to s.acts t k.no) k)).0).1.event
   unfolding piece_at hearings_in
   piece_by t k at =
-      get_or-map (λ (d : HearOutcome). d.event) (hearings_at s t) j _ None (hear_outcome_is (machine_of s) (places_of s) (first_tracks s) t j k at)
+      get_or-map (λ (d : HearOutcome). d.event) (hearings_at s t) j _ None (hear_outcome_is (machine_of s) (taps_of s) (first_tracks s) t j k at)
 
   pub piece_is : (u : ℕ) → piece_at s j (line.start + u) ≡ receive_event (receiver u) (given s j line found u).heard (drove u)
   piece_is u =

@@ -1,9 +1,10 @@
 -- The drives of other nodes as they pass a node: one after another, each heard quarter by quarter, and nothing else.
-use Rattle.std.proofs.Common.{◌≡◌, ◌≢◌, ℕ, ◌+◌, ◌-◌, ◌<◌, ◌≤◌, ◌⊎◌, inl, inr, Bool, true, false, nat_lt, ◌==◌, List, [], ◌∷◌, length, get_or, Some, None, slice_get, refl, sym, ◌∙◌, ap, subst, arith, rules}
-use Rattle.std.specs.Int.{abs_diff}
+use Rattle.std.proofs.Common.{◌≡◌, ◌≢◌, ℕ, ◌+◌, ◌-◌, ◌<◌, ◌≤◌, ◌⊎◌, inl, inr, Bool, true, false, nat_lt, ◌==◌, List, [], ◌∷◌, length, Some, None, slice_get, refl, sym, ◌∙◌, ap, subst, arith, rules}
 use Rattle.std.proofs.lemmas.Bool.{cases_lt, false_from_ne_true}
 use Rattle.std.proofs.lemmas.Bool.Decides.{nat_tests}
 use Rattle.std.proofs.lemmas.List.{length-map}
+use Rattle.t1s_harness.specs.Distances.{distance}
+use Rattle.t1s_harness.proofs.Distances.{distance_symm, far_point}
 use Rattle.t1s_symbols.specs.declared.Heard.{Heard}
 use Rattle.t1s_symbols.specs.declared.Heard.TheVariants.{Nothing, One}
 use Rattle.t1s_symbols.specs.declared.Quarter.{Quarter}
@@ -14,7 +15,8 @@ use Rattle.t1s_world.proofs.ArrivedWaves.{older}
 use Rattle.t1s_world.proofs.SingleSender.{hears_one}
 use Rattle.t1s_script.specs.declared.script.NodeLine.{NodeLine}
 use Rattle.t1s_script.specs.declared.script.Script.{Script}
-use Rattle.t1s_line.specs.World.{machine_of, places_of, first_tracks, node_set_of, driven_in}
+use Rattle.t1s_script.specs.Taps.{tap_of, taps_of}
+use Rattle.t1s_line.specs.World.{machine_of, first_tracks, node_set_of, driven_in}
 use Rattle.t1s_turns.specs.NodeOverWaves.{cycle_of}
 use Rattle.t1s_turns.specs.ReceiverOverWaves.{HeardOverWaves, nobody, drives, rests, theirs}
 use Rattle.t1s_schedule.proofs.ExactDrives.{Has, has_from, contains_from as has_contained, drives_in, driver_from, each_at}
@@ -34,7 +36,7 @@ module _ (s : Script) (z : ℕ) (fit : FitCable s z) (j : ℕ) (line : NodeLine)
   abbrev pub waves_of : List Drive → List Wave
   waves_of ds = waves s z fit j line found ds
 
-  -- it is over the place in tick v
+  -- it is over the node's point in tick v
   pub record Passes (d : Drive) (v : ℕ) : Type 0 where
     pub from : d.start + late d.node ≤ v
     pub till : v < d.stop + late d.node
@@ -98,8 +100,8 @@ module _ (s : Script) (z : ℕ) (fit : FitCable s z) (j : ℕ) (line : NodeLine)
 
     -- ---- what is heard of another node's drive
 
-    both_ways : (k : ℕ) → abs_diff (get_or (places_of s) j 0) (get_or (places_of s) k 0) ≡ late k
-    both_ways k = omega arith
+    both_ways : (k : ℕ) → distance (taps_of s) j k ≡ late k
+    both_ways k = distance_symm (taps_of s) j k ∙ sym (far_point (taps_of s) k j)
 
     module _ (d : Drive) (has : Has ds d) (other : d.node ≢ j) (v : ℕ) (before : v < t) (at : Passes d v) where
       no_other : (k : ℕ) → (k ≡ d.node → ⊥) → late k ≤ v → driven_in s k (v - late k) ≡ None
@@ -122,17 +124,17 @@ module _ (s : Script) (z : ℕ) (fit : FitCable s z) (j : ℕ) (line : NodeLine)
           ap (λ (u : ℕ). driven_in s j u) (sym same) ∙ no_other j (λ e. other (sym e)) (omega (arith, no_way))
 
       pub hears_quarter : (q : Quarter) → driven_in s d.node (v - late d.node) ≡ Some q
-          → heard_at (machine_of s) (places_of s) (first_tracks s) v j ≡ One q
+          → heard_at (machine_of s) (taps_of s) (first_tracks s) v j ≡ One q
       hears_quarter q driven =
           let node = each_at (IsOfNode (length s.nodes)) ds (of_nodes s z ds shared.chain) d has in
-          let within : d.node < length (places_of s) = omega (arith, node.node, length-map s.nodes (λ (n : NodeLine). n.place)) in
+          let within : d.node < length (taps_of s) = omega (arith, node.node, length-map s.nodes tap_of) in
           let way_is = both_ways d.node in
-          let now : v - abs_diff (get_or (places_of s) j 0) (get_or (places_of s) d.node 0) ≡ v - late d.node = ap (λ (x : ℕ). v - x) way_is in
-          hears_one (machine_of s) (places_of s) (first_tracks s) v j d.node q within other (omega (arith, way_is, at.from))
+          let now : v - distance (taps_of s) j d.node ≡ v - late d.node = ap (λ (x : ℕ). v - x) way_is in
+          hears_one (machine_of s) (taps_of s) (first_tracks s) v j d.node q within other (omega (arith, way_is, at.from))
           (ap (λ (u : ℕ). driven_in s d.node u) now ∙ driven)
           (λ k below apart not_mine near.
           let way_k = both_ways k in
-          let then : v - abs_diff (get_or (places_of s) j 0) (get_or (places_of s) k 0) ≡ v - late k = ap (λ (x : ℕ). v - x) way_k in
+          let then : v - distance (taps_of s) j k ≡ v - late k = ap (λ (x : ℕ). v - x) way_k in
           ap (λ (u : ℕ). driven_in s k u) then ∙ no_other k apart (omega (arith, way_k, near)))
 
     -- ---- whatever is heard is a drive

@@ -4,11 +4,12 @@ use Rattle.t1s_frame.specs.Frame.{nibble_list}
 use Rattle.t1s_ring.specs.declared.queued.Queued.{Queued}
 use Rattle.t1s_pcs_rx.specs.declared.piece.Kind.{Kind}
 use Rattle.t1s_pcs_rx.specs.declared.piece.Kind.TheVariants.{Good}
-use Rattle.t1s_script.specs.Fit.{IsFit, longest_drive, span_of, start_bound}
+use Rattle.t1s_script.specs.Fit.{IsFit, longest_drive, start_bound}
 use Rattle.t1s_script.specs.Script.{IsScript}
 use Rattle.t1s_script.specs.declared.script.Deed.TheVariants.{Offer as OfferDeed}
 use Rattle.t1s_script.specs.declared.script.NodeLine.{NodeLine}
 use Rattle.t1s_script.specs.declared.script.Script.{Script}
+use Rattle.t1s_script.specs.Taps.{span_of}
 use Rattle.t1s_line.specs.Happenings.{IsTaking, IsLeaving, IsArrival}
 use Rattle.t1s_line.specs.World.{settled_below}
 use Rattle.t1s_schedule.specs.SharedLine.{far_in, at_in}

@@ -12,8 +12,8 @@ use Rattle.t1s_line.specs.EventRecords.{EventRecord}
 use Rattle.t1s_line.specs.Offers.{OfferRecord, after_offers, after_records, offer_event, records_of}
 use Rattle.t1s_line.specs.Outcomes.{NodePhases}
 use Rattle.t1s_line.specs.Totals.{after_refusals}
-use Rattle.t1s_segment.specs.Upcoming.{AreComing, next_due, after_due, offers_of, noise_end}
-use Rattle.t1s_segment.proofs.ActSteps.{IsDue, due, offers_due, offers_other, act_other, noise_done}
+use Rattle.t1s_acts.specs.Upcoming.{AreComing, next_due, after_due, offers_of, noise_end}
+use Rattle.t1s_acts.proofs.ActSteps.{IsDue, due, offers_due, offers_other, act_other, noise_done}
 use Rattle.t1s_segment.proofs.OfferSteps.{after_offers-append, records_of-append, after_refusals-append, after_records-append}
 
 module _ (t : ℕ) (upcoming : List Act) (deed : Deed) (next : next_due t upcoming ≡ Some deed) where

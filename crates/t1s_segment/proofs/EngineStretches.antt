@@ -1,15 +1,14 @@
 -- For how long an engine has nothing to do: what is looked at one after the other ends the stretch.
-use Rattle.std.proofs.Common.{◌≡◌, ℕ, ◌+◌, ◌-◌, ◌<◌, ◌≤◌, min, inl, inr, true, List, Option, refl, arith, subst, add-zero}
+use Rattle.std.proofs.Common.{◌≡◌, ℕ, ◌+◌, ◌-◌, ◌<◌, ◌≤◌, min, inl, inr, List, Option, refl, arith, subst, add-zero}
 use Rattle.std.proofs.lemmas.Bool.{cases_lt}
 use Rattle.t1s_symbols.specs.declared.Quarter.{Quarter}
 use Rattle.t1s_cable.specs.Calm.{after_silence, IsCalm as IsSilent}
 use Rattle.t1s_cable.specs.Stands.{Stands as CableStands}
-use Rattle.t1s_line.specs.Acts.{has_act}
 use Rattle.t1s_line.specs.Outcomes.{NodePhases}
 use Rattle.t1s_segment.specs.State.{EngineState}
 use Rattle.t1s_segment.specs.Stretches.{AllCalm, IsStretch, OneActs, Reaches}
-use Rattle.t1s_segment.specs.Upcoming.{AreComing, free_ticks}
-use Rattle.t1s_segment.proofs.ActSteps.{free_coming, free_ends, free_within}
+use Rattle.t1s_acts.specs.Upcoming.{AreComing, free_ticks}
+use Rattle.t1s_acts.proofs.ActSteps.{free_coming, free_ends, free_within}
 use Rattle.t1s_segment.proofs.NodeStretches.{calm_fewer, calm_none}
 
 module _ {N : Type 0} (p : NodePhases N) (calm : ℕ → N → Type 0) (g : EngineState N) (most : ℕ) (in_time : g.tick ≤ g.end) where
@@ -44,7 +43,7 @@ module _ {N : Type 0} (p : NodePhases N) (calm : ℕ → N → Type 0) (g : Engi
     -- all nodes are calm for so long, and before the next act and the next quarter
     pub all_calm : (c f n : ℕ) → c ≤ limit → AllCalm p calm g.tick c g.nodes → (c < limit → OneActs p calm g.tick c g.nodes)
         → f ≡ free_ticks g.tick c g.upcoming → n ≤ f
-        → ((rows : List (List (Option Quarter))) → CableStands rows g.cable → (k : ℕ) → k < n → IsSilent g.cable.places (after_silence g.cable.places k rows))
+        → ((rows : List (List (Option Quarter))) → CableStands rows g.cable → (k : ℕ) → k < n → IsSilent g.cable.taps (after_silence g.cable.taps k rows))
         → (n < f → Reaches g n) → IsStretch p calm g most n
     all_calm c f n within nodes acts free le silent reaches =
         let few = free_within g.tick c g.upcoming in

@@ -1,11 +1,10 @@
 pub mod Numbered
-pub mod ActNumbers
 pub mod OfferSteps
-pub mod ActSteps
 pub mod DueActs
 pub mod OfferedTicks
 pub mod PhaseSteps
 pub mod Playing
+pub mod LineTaps
 pub mod Stretches
 pub mod Passing
 pub mod NodeStretches

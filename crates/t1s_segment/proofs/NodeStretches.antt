@@ -1,7 +1,5 @@
 -- For how long all nodes are calm, node by node.
 use Rattle.std.proofs.Common.{◌≡◌, ℕ, ◌+◌, ◌<◌, ◌≤◌, inl, inr, List, [], ◌∷◌, ◌++◌, length, get_or, map, set, take, drop, replicate, refl, sym, ◌∙◌, ap, arith, subst}
-use Rattle.std.specs.Prelude.{All, Contains}
-use Rattle.std.specs.Fn.{iterate}
 use Rattle.std.proofs.lemmas.Bool.{cases_lt}
 use Rattle.std.proofs.lemmas.List.{length-map, length-replicate, length-take-le, replicate_more}
 use Rattle.std.proofs.lemmas.List.Elements.{All-more}

@@ -15,7 +15,7 @@ use Rattle.t1s_script.specs.declared.script.NodeLine.{NodeLine}
 use Rattle.t1s_line.specs.Acts.{Offer, queued_to, offers_at, offers_to, is_noisy}
 use Rattle.t1s_line.specs.Offers.{after_offer, after_offers, records_of}
 use Rattle.t1s_line.specs.Outcomes.{DriveOutcome, HearOutcome, NodePhases, KeepsNumber, with_offers, machine_with}
-use Rattle.t1s_line.specs.Runs.{places_in, nodes_in, records_in, drives_in, hearings_in}
+use Rattle.t1s_line.specs.Runs.{taps_in, nodes_in, records_in, drives_in, hearings_in}
 use Rattle.t1s_segment.specs.Numbers.{AreNumbered}
 use Rattle.t1s_segment.specs.State.{two_phases, under_noise}
 use Rattle.t1s_segment.proofs.OfferSteps.{map_same}
@@ -90,7 +90,7 @@ module _ {N : Type 0} (p : NodePhases N) where
     -- the nodes keep their numbers
     pub numbers_stay : (t : ℕ) → map p.number (nodes_in p acts lines first t) ≡ numbers_of lines
     numbers_stay t =
-        past_keeps (machine_with p acts) (places_in lines) first p.number
+        past_keeps (machine_with p acts) (taps_in lines) first p.number
         (λ u n. numbered.driving u (with_offers p u (offers_to acts u (p.number n)) n) ∙ with_number numbered.offering u (offers_to acts u (p.number n)) n)
         (λ u h n. numbered.hearing u (under_noise (is_noisy acts u) h) n) t
         ∙ numbered.each
@@ -104,10 +104,10 @@ module _ {N : Type 0} (p : NodePhases N) where
       driven = after_drive (two_phases p) t offered
 
       abbrev pub rows_on : List (List (Option Quarter))
-      rows_on = row_of (two_phases p) t offered ∷ (past (machine_with p acts) (places_in lines) first t).rows
+      rows_on = row_of (two_phases p) t offered ∷ (past (machine_with p acts) (taps_in lines) first t).rows
 
       abbrev pub hears : ℕ → Heard
-      hears j = under_noise (is_noisy acts t) (heard (at_depth rows_on) (places_in lines) j)
+      hears j = under_noise (is_noisy acts t) (heard (at_depth rows_on) (taps_in lines) j)
 
       pub records_are : records_in p acts lines first t ≡ records_of p t (offers_at acts t) (nodes_in p acts lines first t)
       unfolding records_in
@@ -117,26 +117,26 @@ module _ {N : Type 0} (p : NodePhases N) where
       unfolding drives_in
       drives_are = outcomes_given acts t numbered.offering (nodes_in p acts lines first t)
 
-      pub rows_are : (past (machine_with p acts) (places_in lines) first (suc t)).rows ≡ rows_on
+      pub rows_are : (past (machine_with p acts) (taps_in lines) first (suc t)).rows ≡ rows_on
       rows_are =
-          ap (λ (q : Past N). q.rows) (past-suc (machine_with p acts) (places_in lines) first t)
-          ∙ ap (λ (row : List (Option Quarter)). row ∷ (past (machine_with p acts) (places_in lines) first t).rows) (row_given acts t numbered.offering (nodes_in p acts lines first t))
+          ap (λ (q : Past N). q.rows) (past-suc (machine_with p acts) (taps_in lines) first t)
+          ∙ ap (λ (row : List (Option Quarter)). row ∷ (past (machine_with p acts) (taps_in lines) first t).rows) (row_given acts t numbered.offering (nodes_in p acts lines first t))
 
       pub hearings_are : hearings_in p acts lines first t ≡ hear_outcomes (two_phases p) t hears 0 driven
       unfolding hearings_in
       hearings_are =
           let m : Machine N DriveOutcome HearOutcome = machine_with p acts in
           let before : List N = nodes_in p acts lines first t in
-          ap (λ (rs : List (List (Option Quarter))). hear_outcomes m t (heard (at_depth rs) (places_in lines)) 0 (after_drive m t before)) rows_are
-          ∙ (ap (λ (ns : List N). hear_outcomes m t (heard (at_depth rows_on) (places_in lines)) 0 ns) (drive_given acts t numbered.offering before)
-          ∙ hear_outcomes_noise acts t (heard (at_depth rows_on) (places_in lines)) 0 driven)
+          ap (λ (rs : List (List (Option Quarter))). hear_outcomes m t (heard (at_depth rs) (taps_in lines)) 0 (after_drive m t before)) rows_are
+          ∙ (ap (λ (ns : List N). hear_outcomes m t (heard (at_depth rows_on) (taps_in lines)) 0 ns) (drive_given acts t numbered.offering before)
+          ∙ hear_outcomes_noise acts t (heard (at_depth rows_on) (taps_in lines)) 0 driven)
 
       pub nodes_are : nodes_in p acts lines first (suc t) ≡ after_hear (two_phases p) t hears 0 driven
       nodes_are =
           let m : Machine N DriveOutcome HearOutcome = machine_with p acts in
           let before : List N = nodes_in p acts lines first t in
-          let rows : List (List (Option Quarter)) = row_of m t before ∷ (past m (places_in lines) first t).rows in
-          ap (λ (q : Past N). q.nodes) (past-suc m (places_in lines) first t)
-          ∙ (ap (λ (r : List (Option Quarter)). after_hear m t (heard (at_depth (r ∷ (past m (places_in lines) first t).rows)) (places_in lines)) 0 (after_drive m t before)) (row_given acts t numbered.offering before)
-          ∙ (ap (λ (ns : List N). after_hear m t (heard (at_depth rows_on) (places_in lines)) 0 ns) (drive_given acts t numbered.offering before)
-          ∙ after_hear_noise acts t (heard (at_depth rows_on) (places_in lines)) 0 driven))
+          let rows : List (List (Option Quarter)) = row_of m t before ∷ (past m (taps_in lines) first t).rows in
+          ap (λ (q : Past N). q.nodes) (past-suc m (taps_in lines) first t)
+          ∙ (ap (λ (r : List (Option Quarter)). after_hear m t (heard (at_depth (r ∷ (past m (taps_in lines) first t).rows)) (taps_in lines)) 0 (after_drive m t before)) (row_given acts t numbered.offering before)
+          ∙ (ap (λ (ns : List N). after_hear m t (heard (at_depth rows_on) (taps_in lines)) 0 ns) (drive_given acts t numbered.offering before)
+          ∙ after_hear_noise acts t (heard (at_depth rows_on) (taps_in lines)) 0 driven))

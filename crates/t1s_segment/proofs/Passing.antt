@@ -1,5 +1,5 @@
 -- An engine that skips a stretch of calm ticks plays the run at the tick that it comes to.
-use Rattle.std.proofs.Common.{◌≡◌, ℕ, suc, ◌+◌, ◌<◌, ◌≤◌, inl, inr, Bool, true, false, ltb, lt-ltb, le-ltb, ◌||◌, List, [], ◌∷◌, length, get_or, map, Option, Some, refl, sym, ◌∙◌, ap, arith, subst}
+use Rattle.std.proofs.Common.{◌≡◌, ℕ, suc, ◌+◌, ◌<◌, ◌≤◌, inl, inr, Bool, true, false, ltb, lt-ltb, le-ltb, ◌||◌, List, [], ◌∷◌, length, map, Option, Some, refl, sym, ◌∙◌, ap, arith, subst}
 use Rattle.std.specs.List.{AllByRecursion}
 use Rattle.std.specs.Fn.{iterate}
 use Rattle.std.specs.Prelude.{All, Contains, slice_get}
@@ -7,7 +7,7 @@ use Rattle.std.proofs.lemmas.Option.{get_or_from_slice_get, slice_get_within}
 use Rattle.std.proofs.lemmas.List.{length-map}
 use Rattle.std.proofs.lemmas.List.Elements.{All-contains, All-from_recursion, recursion_from_All}
 use Rattle.std.proofs.lemmas.Simd.{map-map}
-use Rattle.t1s_symbols.specs.declared.Heard.{Heard}
+use Rattle.t1s_harness.specs.declared.Tap.{Tap}
 use Rattle.t1s_symbols.specs.declared.Heard.TheVariants.{Nothing}
 use Rattle.t1s_symbols.specs.declared.Quarter.{Quarter}
 use Rattle.t1s_symbols.specs.CalmSteps.{AreCalm}
@@ -17,19 +17,19 @@ use Rattle.t1s_cable.specs.Calm.{after_silence as rows_after, IsCalm as IsSilent
 use Rattle.t1s_cable.specs.Stands.{Stands as CableStands, no_puts}
 use Rattle.t1s_script.specs.declared.script.Act.{Act}
 use Rattle.t1s_script.specs.declared.script.NodeLine.{NodeLine}
-use Rattle.t1s_line.specs.declared.offers.OfferState.TheVariants.{Unknown}
+use Rattle.t1s_script.specs.Taps.{tap_of}
 use Rattle.t1s_line.specs.Acts.{has_act, is_noisy}
 use Rattle.t1s_line.specs.CalmRuns.{HasCalmTicks, IsCalmAt, IsCalmIn, silent_step}
 use Rattle.t1s_line.specs.Outcomes.{NodePhases, machine_with}
-use Rattle.t1s_line.specs.Runs.{places_in, nodes_in}
+use Rattle.t1s_line.specs.Runs.{taps_in, nodes_in}
 use Rattle.t1s_line.proofs.CalmRuns.{nodes_hold}
 use Rattle.t1s_segment.specs.Stands.{Plays}
 use Rattle.t1s_segment.specs.State.{EngineState}
 use Rattle.t1s_segment.specs.Stretches.{IsStretch}
-use Rattle.t1s_segment.specs.Upcoming.{AreComing}
-use Rattle.t1s_segment.proofs.ActSteps.{no_acts, no_noise}
+use Rattle.t1s_acts.specs.Upcoming.{AreComing}
+use Rattle.t1s_acts.proofs.ActSteps.{no_acts, no_noise}
 use Rattle.t1s_segment.proofs.Playing.{length_numbered}
-use Rattle.t1s_segment.proofs.Stretches.{HasPassed, IsQuiet, quiet_passes, rows_next, silence_first, silence_turned, steps_counted}
+use Rattle.t1s_segment.proofs.Stretches.{HasPassed, IsQuiet, quiet_passes, rows_next, silence_turned, steps_counted}
 
 -- what a skip of n ticks leaves of an engine
 pub record SkipStep {N : Type 0} (passed : ℕ → ℕ → N → N) (g h : EngineState N) (n : ℕ) : Type 0 where
@@ -39,11 +39,11 @@ pub record SkipStep {N : Type 0} (passed : ℕ → ℕ → N → N) (g h : Engin
   pub upcoming : h.upcoming ≡ g.upcoming
   pub noise_until : h.noise_until ≡ g.noise_until
   pub nodes : h.nodes ≡ map (passed g.tick n) g.nodes
-  pub places : h.cable.places ≡ g.cable.places
-  pub cable : (rows : List (List (Option Quarter))) → CableStands rows g.cable → CableStands (rows_after g.cable.places n rows) h.cable
+  pub taps : h.cable.taps ≡ g.cable.taps
+  pub cable : (rows : List (List (Option Quarter))) → CableStands rows g.cable → CableStands (rows_after g.cable.taps n rows) h.cable
   pub totals : h.totals ≡ g.totals
   pub states : h.states ≡ g.states
-  pub heard : h.heard ≡ map (λ (place : ℕ). (Nothing, false)) g.cable.places
+  pub heard : h.heard ≡ map (λ (tap : Tap). (Nothing, false)) g.cable.taps
 
 -- two functions that agree at each element
 map_each : {X Y : Type 0} (f g : X → Y) (xs : List X) → ((j : ℕ) (x : X) → slice_get xs j ≡ Some x → f x ≡ g x) → map f xs ≡ map g xs
@@ -77,11 +77,11 @@ module _ {N : Type 0} (p : NodePhases N) (holds : N → Type 0) (calm : ℕ → 
   size : length first ≡ length lines
   size = length_numbered p lines first plays.numbered
 
-  abbrev places : List ℕ
-  places = places_in lines
+  abbrev taps : List Tap
+  taps = taps_in lines
 
   abbrev rows : List (List (Option Quarter))
-  rows = (past (machine_with p acts) places first t).rows
+  rows = (past (machine_with p acts) taps first t).rows
 
   coming_now : AreComing g.tick g.upcoming
   coming_now = rw plays.tick plays.coming
@@ -111,7 +111,7 @@ module _ {N : Type 0} (p : NodePhases N) (holds : N → Type 0) (calm : ℕ → 
     noise_none = noise_none;
     alone = alone;
     silent = λ k below.
-        subst (λ (ps : List ℕ). IsSilent ps (rows_after ps k (no_puts places ∷ rows))) plays.places (stretch.silent (no_puts places ∷ rows) plays.cable k below);
+        subst (λ (ps : List Tap). IsSilent ps (rows_after ps k (no_puts taps ∷ rows))) plays.taps (stretch.silent (no_puts taps ∷ rows) plays.cable k below);
   }
 
   passes : HasPassed p holds calm passed laws acts lines first held size some t n (t + n)
@@ -120,8 +120,8 @@ module _ {N : Type 0} (p : NodePhases N) (holds : N → Type 0) (calm : ℕ → 
   pub skip_calm : (k : ℕ) → t ≤ k → k < t + n → IsCalmIn p calm acts lines first k
   skip_calm = passes.ticks
 
-  rows_then : rows_after places n (no_puts places ∷ rows) ≡ no_puts places ∷ (past (machine_with p acts) places first (t + n)).rows
-  rows_then = silence_turned places n rows ∙ ap (λ (r : List (List (Option Quarter))). no_puts places ∷ r) (sym passes.rows_left)
+  rows_then : rows_after taps n (no_puts taps ∷ rows) ≡ no_puts taps ∷ (past (machine_with p acts) taps first (t + n)).rows
+  rows_then = silence_turned taps n rows ∙ ap (λ (r : List (List (Option Quarter))). no_puts taps ∷ r) (sym passes.rows_left)
 
   -- nodes that pass the ticks at once are as they would be after one tick and the other
   passed_nodes : map (passed t n) (nodes_in p acts lines first t) ≡ nodes_in p acts lines first (t + n)
@@ -139,7 +139,7 @@ module _ {N : Type 0} (p : NodePhases N) (holds : N → Type 0) (calm : ℕ → 
           in_time = omega (arith, stretch.in_time, tick, plays.end_is);
           tick = skips.tick ∙ ap (λ (u : ℕ). u + n) tick;
           end_is = skips.end ∙ plays.end_is;
-          places = skips.places ∙ plays.places;
+          taps = skips.taps ∙ plays.taps;
           numbered = plays.numbered;
           coming = rw skips.upcoming coming_then;
           due = λ u le. rw skips.upcoming (plays.due u (omega (arith, le)));
@@ -151,16 +151,16 @@ module _ {N : Type 0} (p : NodePhases N) (holds : N → Type 0) (calm : ℕ → 
               ∙ ap (map (passed t n)) plays.nodes
               ∙ passed_nodes;
           cable =
-              let at : CableStands (rows_after g.cable.places n (no_puts places ∷ rows)) h.cable = skips.cable (no_puts places ∷ rows) plays.cable in
+              let at : CableStands (rows_after g.cable.taps n (no_puts taps ∷ rows)) h.cable = skips.cable (no_puts taps ∷ rows) plays.cable in
               subst (λ (r : List (List (Option Quarter))). CableStands r h.cable) rows_then
-              (subst (λ (ps : List ℕ). CableStands (rows_after ps n (no_puts places ∷ rows)) h.cable) plays.places at);
+              (subst (λ (ps : List Tap). CableStands (rows_after ps n (no_puts taps ∷ rows)) h.cable) plays.taps at);
           settled = skips.settled ∙ plays.settled ∙ sym passes.settled;
           totals = skips.totals ∙ plays.totals ∙ sym passes.totals;
           states = λ k. rw skips.states (plays.states k) ∙ sym (passes.states k);
           heard =
               skips.heard
-              ∙ ap (λ (ps : List ℕ). map (λ (place : ℕ). (Nothing, false)) ps) plays.places
-              ∙ map-map (λ (place : ℕ). (Nothing, false)) (λ (n : NodeLine). n.place) lines
+              ∙ ap (λ (ps : List Tap). map (λ (tap : Tap). (Nothing, false)) ps) plays.taps
+              ∙ map-map (λ (tap : Tap). (Nothing, false)) tap_of lines
               ∙ sym (passes.heard more);
         }
 
@@ -187,9 +187,9 @@ module _ {N : Type 0} (p : NodePhases N) (holds : N → Type 0) (calm : ℕ → 
             let there : has_act g.upcoming (t + n) ≡ true = subst (λ (u : ℕ). has_act g.upcoming (u + n) ≡ true) tick due in
             differ (has_act acts (t + n)) (sym (plays.due (t + n) (omega arith)) ∙ there) is.no_act
         | inr (inr (inr reaches)) ↦
-            let later : rows_after places n (no_puts places ∷ rows) ≡ (past (machine_with p acts) places first (suc (t + n))).rows =
+            let later : rows_after taps n (no_puts taps ∷ rows) ≡ (past (machine_with p acts) taps first (suc (t + n))).rows =
             rows_then ∙ sym (rows_next p holds calm passed laws acts lines first held size some (t + n) is.no_act is.nodes) in
-            let (j, there, hears) = subst (λ (ps : List ℕ). IsHeardIn ps (rows_after ps n (no_puts places ∷ rows))) plays.places (reaches (no_puts places ∷ rows) plays.cable) in
-            let none = is.unreached j (omega (arith, there, length-map lines (λ (n : NodeLine). n.place))) in
-            hears (subst (λ (r : List (List (Option Quarter))). heard (at_depth r) places j ≡ Nothing) (sym later) none)
+            let (j, there, hears) = subst (λ (ps : List Tap). IsHeardIn ps (rows_after ps n (no_puts taps ∷ rows))) plays.taps (reaches (no_puts taps ∷ rows) plays.cable) in
+            let none = is.unreached j (omega (arith, there, length-map lines tap_of)) in
+            hears (subst (λ (r : List (List (Option Quarter))). heard (at_depth r) taps j ≡ Nothing) (sym later) none)
       ]

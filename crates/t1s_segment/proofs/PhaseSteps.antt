@@ -5,6 +5,7 @@ use Rattle.std.proofs.lemmas.List.{append-nil, drop_all, length-map, length-take
 use Rattle.std.proofs.lemmas.List.Concat.{flat_map-append}
 use Rattle.std.proofs.lemmas.List.Edits.{map_over_more}
 use Rattle.std.proofs.lemmas.List.Folds.{list_all-append}
+use Rattle.t1s_harness.specs.declared.Tap.{Tap}
 use Rattle.t1s_symbols.specs.declared.Heard.{Heard}
 use Rattle.t1s_symbols.specs.declared.Heard.TheVariants.{Nothing}
 use Rattle.t1s_symbols.specs.declared.Quarter.{Quarter}
@@ -82,24 +83,24 @@ module _ {N : Type 0} (m : Machine N DriveOutcome HearOutcome) (t : ℕ) (xs ys 
         ∙ and_true (are_ok (drive_outcomes m t (take i xs))) (m.drive t x).1.ok)
 
     -- the row of the cable where the nodes below i have put what they drive
-    module _ (places : List ℕ) (sizes : length places ≡ length xs) where
+    module _ (taps : List Tap) (sizes : length taps ≡ length xs) where
       row_len : length (row_of m t (take i xs)) ≡ i
       row_len = length-map (take i xs) (λ n. m.quarter (m.drive t n).1) ∙ length-take-le i xs (omega arith)
 
-      puts_len : length (no_puts places) ≡ length places
-      puts_len = length-replicate (length places) None
+      puts_len : length (no_puts taps) ≡ length taps
+      puts_len = length-replicate (length taps) None
 
-      pub put_more : set (row_of m t (take i xs) ++ drop i (no_puts places)) i (m.quarter (m.drive t x).1) ≡ row_of m t (take (i + 1) xs) ++ drop (i + 1) (no_puts places)
+      pub put_more : set (row_of m t (take i xs) ++ drop i (no_puts taps)) i (m.quarter (m.drive t x).1) ≡ row_of m t (take (i + 1) xs) ++ drop (i + 1) (no_puts taps)
       put_more =
           let row : List (Option Quarter) = row_of m t (take i xs) in
           rw row_more
-          (written_more row (no_puts places) (row ++ drop i (no_puts places)) i (m.quarter (m.drive t x).1) None row_len (omega (arith, puts_len, sizes)) refl)
+          (written_more row (no_puts taps) (row ++ drop i (no_puts taps)) i (m.quarter (m.drive t x).1) None row_len (omega (arith, puts_len, sizes)) refl)
 
       -- and of the node i nothing is put yet
-      pub none_put : get_or (row_of m t (take i xs) ++ drop i (no_puts places)) i None ≡ None
+      pub none_put : get_or (row_of m t (take i xs) ++ drop i (no_puts taps)) i None ≡ None
       none_put =
-          get_or-unwritten (row_of m t (take i xs)) (no_puts places) (row_of m t (take i xs) ++ drop i (no_puts places)) i None row_len (omega (arith, puts_len, sizes)) refl
-          ∙ none_at (length places) i
+          get_or-unwritten (row_of m t (take i xs)) (no_puts taps) (row_of m t (take i xs) ++ drop i (no_puts taps)) i None row_len (omega (arith, puts_len, sizes)) refl
+          ∙ none_at (length taps) i
 
   -- one more node hears: what it hears is counted and kept
   module _ (h : ℕ → Heard) (written : ys ≡ after_hear m t h 0 (take i xs) ++ drop i xs) (is : x ≡ get_or ys i x) where
@@ -119,11 +120,11 @@ module _ {N : Type 0} (m : Machine N DriveOutcome HearOutcome) (t : ℕ) (xs ys 
         ∙ ap (λ (r : List EventRecord). hear_events_of (hear_outcomes m t h 0 (take i xs)) ++ r) (append-nil (m.hear t (h i) x).1.events))
 
 -- once all nodes have put what they drive, the row is that of the tick
-pub all_put : {N : Type 0} (m : Machine N DriveOutcome HearOutcome) (t : ℕ) (xs : List N) (places : List ℕ) (i : ℕ) → length places ≡ length xs → length xs ≤ i → row_of m t (take i xs) ++ drop i (no_puts places) ≡ row_of m t xs
-all_put m t xs places i sizes past =
+pub all_put : {N : Type 0} (m : Machine N DriveOutcome HearOutcome) (t : ℕ) (xs : List N) (taps : List Tap) (i : ℕ) → length taps ≡ length xs → length xs ≤ i → row_of m t (take i xs) ++ drop i (no_puts taps) ≡ row_of m t xs
+all_put m t xs taps i sizes past =
     let none : Option Quarter = None in
-    let left : length (no_puts places) ≤ i = omega (arith, length-replicate (length places) none, sizes) in
-    rw (take_all i xs past, drop_all i (no_puts places) left) (append-nil (row_of m t xs))
+    let left : length (no_puts taps) ≤ i = omega (arith, length-replicate (length taps) none, sizes) in
+    rw (take_all i xs past, drop_all i (no_puts taps) left) (append-nil (row_of m t xs))
 
 -- ---- what was heard
 

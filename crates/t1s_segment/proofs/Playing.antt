@@ -5,6 +5,7 @@ use Rattle.std.specs.List.Sorted.{IsNonDecreasing}
 use Rattle.std.specs.Option.{option_map}
 use Rattle.std.proofs.lemmas.Bool.Decides.{nat_tests}
 use Rattle.std.proofs.lemmas.List.{length-map}
+use Rattle.t1s_harness.specs.declared.Tap.{Tap}
 use Rattle.t1s_symbols.specs.declared.Heard.{Heard}
 use Rattle.t1s_symbols.specs.declared.Heard.TheVariants.{Nothing}
 use Rattle.t1s_symbols.specs.declared.Quarter.{Quarter}
@@ -25,13 +26,13 @@ use Rattle.t1s_line.specs.EventRecords.{EventRecord}
 use Rattle.t1s_line.specs.Offers.{OfferRecord, after_leaves, after_offers, after_records, first_state, offer_event, records_of}
 use Rattle.t1s_line.specs.Outcomes.{DriveOutcome, HearOutcome, NodePhases, machine_with}
 use Rattle.t1s_line.specs.Totals.{after_driving, after_hearing, after_refusals, no_totals}
-use Rattle.t1s_line.specs.Runs.{are_ok, drive_events_of, drives_in, events_in, hear_events_of, hearings_in, heard_below, heard_tick, last_heard_in, nodes_in, places_in, records_in, totals_in}
+use Rattle.t1s_line.specs.Runs.{are_ok, drive_events_of, drives_in, events_in, hear_events_of, hearings_in, heard_below, heard_tick, last_heard_in, nodes_in, taps_in, records_in, totals_in}
 use Rattle.t1s_line.proofs.RunLemmas.{numbers-totals, settled-zero, settled-more, totals-zero, totals-more, state-zero, state-more, heard-zero, heard-more}
 use Rattle.t1s_segment.specs.Numbers.{AreNumbered, AwaitActs}
 use Rattle.t1s_segment.specs.State.{EngineState, settled_after, two_phases, under_noise}
 use Rattle.t1s_segment.specs.Stands.{Plays}
-use Rattle.t1s_segment.specs.Upcoming.{AreComing}
-use Rattle.t1s_segment.proofs.ActSteps.{coming_first, no_noise}
+use Rattle.t1s_acts.specs.Upcoming.{AreComing}
+use Rattle.t1s_acts.proofs.ActSteps.{coming_first, no_noise}
 use Rattle.t1s_segment.proofs.OfferedTicks.{numbers_stay, offered, driven, rows_on, hears, records_are, drives_are, rows_are, hearings_are, nodes_are}
 
 or_false : (b : Bool) → (b || false) ≡ b
@@ -56,7 +57,7 @@ module _ {N : Type 0} (p : NodePhases N) where
   told g = records_of p g.tick (offers_at g.upcoming g.tick) g.nodes
 
   abbrev pub brought : EngineState N → ℕ → List (List (Option Quarter)) → ℕ → Heard
-  brought g until rows j = under_noise (ltb g.tick until) (heard (at_depth rows) g.cable.places j)
+  brought g until rows j = under_noise (ltb g.tick until) (heard (at_depth rows) g.cable.taps j)
 
   abbrev pub Awaits : EngineState N → Type 0
   Awaits g = AwaitActs p g.tick g.nodes g.totals g.upcoming
@@ -67,13 +68,13 @@ module _ {N : Type 0} (p : NodePhases N) where
     pub driven_on : CableState
     pub tick : h.tick ≡ g.tick + 1
     pub end : h.end ≡ g.end
-    pub places : h.cable.places ≡ g.cable.places
+    pub taps : h.cable.taps ≡ g.cable.taps
     pub coming : AreComing g.tick g.upcoming → AreComing (g.tick + 1) h.upcoming
     pub due : AreComing g.tick g.upcoming → (u : ℕ) → g.tick < u → has_act h.upcoming u ≡ has_act g.upcoming u
     pub offers : AreComing g.tick g.upcoming → (u : ℕ) → g.tick < u → offers_at h.upcoming u ≡ offers_at g.upcoming u
     pub noise : AreComing g.tick g.upcoming → (u : ℕ) → g.tick ≤ u → (is_noisy h.upcoming u || ltb u h.noise_until) ≡ (is_noisy g.upcoming u || ltb u g.noise_until)
-    pub drives_on : Awaits g → (past : List (List (Option Quarter))) → CableStands (no_puts g.cable.places ∷ past) g.cable → CableStands (row_of (two_phases p) g.tick (given g) ∷ past) driven_on
-    pub turns : (rows : List (List (Option Quarter))) → CableStands rows driven_on → CableStands (no_puts g.cable.places ∷ rows) h.cable
+    pub drives_on : Awaits g → (past : List (List (Option Quarter))) → CableStands (no_puts g.cable.taps ∷ past) g.cable → CableStands (row_of (two_phases p) g.tick (given g) ∷ past) driven_on
+    pub turns : (rows : List (List (Option Quarter))) → CableStands rows driven_on → CableStands (no_puts g.cable.taps ∷ rows) h.cable
     pub nodes : Awaits g → (rows : List (List (Option Quarter))) → CableStands rows driven_on → h.nodes ≡ after_hear (two_phases p) g.tick (brought g h.noise_until rows) 0 (after_drive (two_phases p) g.tick (given g))
     pub settled : Awaits g → h.settled ≡ settled_after g.settled g.tick (are_ok (drive_outcomes (two_phases p) g.tick (given g)))
     pub totals : Awaits g → (rows : List (List (Option Quarter))) → CableStands rows driven_on → h.totals ≡ each_with after_hearing (each_with after_driving (after_refusals g.totals (told g)) (drive_outcomes (two_phases p) g.tick (given g))) (hear_outcomes (two_phases p) g.tick (brought g h.noise_until rows) 0 (after_drive (two_phases p) g.tick (given g)))
@@ -82,21 +83,21 @@ module _ {N : Type 0} (p : NodePhases N) where
 
   module _ (acts : List Act) (lines : List NodeLine) (first : List N) (end : ℕ) where
     -- a new engine plays the run at tick 0
-    pub plays_first : (g : EngineState N) → AreNumbered p lines first → IsNonDecreasing (map (λ (a : Act). a.tick) acts) → g.tick ≡ 0 → g.end ≡ end → g.settled ≡ None → g.upcoming ≡ acts → g.noise_until ≡ 0 → g.cable.places ≡ places_in lines → g.nodes ≡ first → CableStands (no_puts (places_in lines) ∷ []) g.cable → g.totals ≡ map (λ (n : NodeLine). no_totals n.no) lines → ((k : ℕ) → get_or g.states k Unknown ≡ first_state acts k) → g.heard ≡ map (λ (n : NodeLine). (Nothing, false)) lines → Plays p acts lines first end 0 g
-    plays_first g numbered order tick end_is settled upcoming quiet places nodes cable totals states heard =
-        let start = past-zero (machine_with p acts) (places_in lines) first in
+    pub plays_first : (g : EngineState N) → AreNumbered p lines first → IsNonDecreasing (map (λ (a : Act). a.tick) acts) → g.tick ≡ 0 → g.end ≡ end → g.settled ≡ None → g.upcoming ≡ acts → g.noise_until ≡ 0 → g.cable.taps ≡ taps_in lines → g.nodes ≡ first → CableStands (no_puts (taps_in lines) ∷ []) g.cable → g.totals ≡ map (λ (n : NodeLine). no_totals n.no) lines → ((k : ℕ) → get_or g.states k Unknown ≡ first_state acts k) → g.heard ≡ map (λ (n : NodeLine). (Nothing, false)) lines → Plays p acts lines first end 0 g
+    plays_first g numbered order tick end_is settled upcoming quiet taps nodes cable totals states heard =
+        let start = past-zero (machine_with p acts) (taps_in lines) first in
         record {
           in_time = omega arith;
           tick = tick;
           end_is = end_is;
-          places = places;
+          taps = taps;
           numbered = numbered;
           coming = rw upcoming (coming_first 0 acts order (λ some. omega arith));
           due = λ u le. rw upcoming refl;
           offers = λ u le. rw upcoming refl;
           noise = λ u le. rw (upcoming, quiet) (no_noise_yet (is_noisy acts u) u);
           nodes = nodes ∙ sym (ap (λ (q : Past N). q.nodes) start);
-          cable = subst (λ (q : Past N). CableStands (no_puts (places_in lines) ∷ q.rows) g.cable) (sym start) cable;
+          cable = subst (λ (q : Past N). CableStands (no_puts (taps_in lines) ∷ q.rows) g.cable) (sym start) cable;
           settled = rw (settled-zero p acts lines first) settled;
           totals = rw (totals-zero p acts lines first) totals;
           states = λ k. states k ∙ sym (state-zero p acts lines first k);
@@ -152,15 +153,15 @@ module _ {N : Type 0} (p : NodePhases N) where
 
         pub keeps : CableStands history ticked.driven_on
         keeps =
-            let old : List (List (Option Quarter)) = (past (machine_with p acts) (places_in lines) first t).rows in
+            let old : List (List (Option Quarter)) = (past (machine_with p acts) (taps_in lines) first t).rows in
             subst (λ (row : List (Option Quarter)). CableStands (row ∷ old) ticked.driven_on) row_is
-            (ticked.drives_on awaits old (subst (λ (places : List ℕ). CableStands (no_puts places ∷ old) g.cable) (sym plays.places) plays.cable))
+            (ticked.drives_on awaits old (subst (λ (taps : List Tap). CableStands (no_puts taps ∷ old) g.cable) (sym plays.taps) plays.cable))
 
         brought_is : brought g h.noise_until history ≡ hears p acts lines first plays.numbered t
         brought_is =
-            let hear : Bool → (ℕ → ℕ → Option Quarter) → List ℕ → ℕ → Heard = λ noisy at places j. under_noise noisy (heard at places j) in
-            ap (λ (noisy : Bool). hear noisy (at_depth history) g.cable.places) noisy_is
-            ∙ ap (λ (places : List ℕ). hear (is_noisy acts t) (at_depth history) places) plays.places
+            let hear : Bool → (ℕ → ℕ → Option Quarter) → List Tap → ℕ → Heard = λ noisy at taps j. under_noise noisy (heard at taps j) in
+            ap (λ (noisy : Bool). hear noisy (at_depth history) g.cable.taps) noisy_is
+            ∙ ap (λ (taps : List Tap). hear (is_noisy acts t) (at_depth history) taps) plays.taps
 
         hearings_is : hear_outcomes (two_phases p) g.tick (brought g h.noise_until history) 0 (after_drive (two_phases p) g.tick (given g)) ≡ hearings_in p acts lines first t
         hearings_is =
@@ -182,7 +183,7 @@ module _ {N : Type 0} (p : NodePhases N) where
               in_time = omega (arith, plays.in_time, plays.tick, plays.end_is, left);
               tick = ticked.tick ∙ ap (λ (n : ℕ). n + 1) plays.tick;
               end_is = ticked.end ∙ plays.end_is;
-              places = ticked.places ∙ plays.places;
+              taps = ticked.taps ∙ plays.taps;
               numbered = plays.numbered;
               coming = subst (λ (u : ℕ). AreComing (u + 1) h.upcoming) plays.tick (ticked.coming awaits.coming);
               due = λ u le. ticked.due awaits.coming u (omega (arith, plays.tick, le)) ∙ plays.due u (omega (arith, le));
@@ -190,8 +191,8 @@ module _ {N : Type 0} (p : NodePhases N) where
               noise = λ u le. ticked.noise awaits.coming u (omega (arith, plays.tick, le)) ∙ plays.noise u (omega (arith, le));
               nodes = rw add-one (ticked.nodes awaits history keeps ∙ nodes_is);
               cable =
-                  rw add-one (subst (λ (rows : List (List (Option Quarter))). CableStands (no_puts (places_in lines) ∷ rows) h.cable) (sym (rows_are p acts lines first plays.numbered t))
-                  (subst (λ (places : List ℕ). CableStands (no_puts places ∷ history) h.cable) plays.places (ticked.turns history keeps)));
+                  rw add-one (subst (λ (rows : List (List (Option Quarter))). CableStands (no_puts (taps_in lines) ∷ rows) h.cable) (sym (rows_are p acts lines first plays.numbered t))
+                  (subst (λ (taps : List Tap). CableStands (no_puts taps ∷ history) h.cable) plays.taps (ticked.turns history keeps)));
               settled = ticked.settled awaits ∙ rw (drives_is, plays.settled, plays.tick) (sym (settled-more p acts lines first t));
               totals = ticked.totals awaits history keeps ∙ rw (hearings_is, drives_is, told_is, plays.totals) (sym (totals-more p acts lines first t));
               states = λ k. ticked.states awaits k ∙ rw (plays.states k, drives_is, told_is, plays.tick) (sym (state-more p acts lines first t k));

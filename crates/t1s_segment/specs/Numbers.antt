@@ -7,7 +7,7 @@ use Rattle.t1s_script.specs.declared.script.Act.{Act}
 use Rattle.t1s_script.specs.declared.script.NodeLine.{NodeLine}
 use Rattle.t1s_line.specs.declared.totals.NodeTotals.{NodeTotals}
 use Rattle.t1s_line.specs.Outcomes.{NodePhases, KeepsNumber}
-use Rattle.t1s_segment.specs.Upcoming.{AreComing}
+use Rattle.t1s_acts.specs.Upcoming.{AreComing}
 
 -- The nodes stand in these lines of a script, each with the number of its line. The numbers ascend strictly, and nothing
 -- that happens to a node changes its number.

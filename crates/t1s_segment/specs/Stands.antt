@@ -9,12 +9,12 @@ use Rattle.t1s_script.specs.declared.script.NodeLine.{NodeLine}
 use Rattle.t1s_line.specs.declared.offers.OfferState.TheVariants.{Unknown}
 use Rattle.t1s_line.specs.Acts.{has_act, is_noisy, offers_at}
 use Rattle.t1s_line.specs.Outcomes.{NodePhases, machine_with}
-use Rattle.t1s_line.specs.Runs.{heard_below, nodes_in, places_in, settled_in, state_in, totals_in}
+use Rattle.t1s_line.specs.Runs.{heard_below, nodes_in, taps_in, settled_in, state_in, totals_in}
 use Rattle.t1s_line.specs.Track.{track_phases}
 use Rattle.t1s_line.specs.World.{first_tracks}
 use Rattle.t1s_segment.specs.Numbers.{AreNumbered}
 use Rattle.t1s_segment.specs.State.{EngineState, SegmentState}
-use Rattle.t1s_segment.specs.Upcoming.{AreComing}
+use Rattle.t1s_acts.specs.Upcoming.{AreComing}
 
 -- What the engine keeps is what the run of the nodes of these lines, as they are at first, has among these acts at tick t.
 -- The acts that it still has to come are those from tick t on, but for the noises that began before. Its cable stands for
@@ -23,14 +23,14 @@ pub record Plays {N : Type 0} (p : NodePhases N) (acts : List Act) (lines : List
   pub in_time : t ≤ end
   pub tick : g.tick ≡ t
   pub end_is : g.end ≡ end
-  pub places : g.cable.places ≡ places_in lines
+  pub taps : g.cable.taps ≡ taps_in lines
   pub numbered : AreNumbered p lines first
   pub coming : AreComing t g.upcoming
   pub due : (u : ℕ) → t ≤ u → has_act g.upcoming u ≡ has_act acts u
   pub offers : (u : ℕ) → t ≤ u → offers_at g.upcoming u ≡ offers_at acts u
   pub noise : (u : ℕ) → t ≤ u → (is_noisy g.upcoming u || nat_lt u g.noise_until) ≡ is_noisy acts u
   pub nodes : g.nodes ≡ nodes_in p acts lines first t
-  pub cable : CableStands (no_puts (places_in lines) ∷ (past (machine_with p acts) (places_in lines) first t).rows) g.cable
+  pub cable : CableStands (no_puts (taps_in lines) ∷ (past (machine_with p acts) (taps_in lines) first t).rows) g.cable
   pub settled : g.settled ≡ settled_in p acts lines first t
   pub totals : g.totals ≡ totals_in p acts lines first t
   pub states : (number : ℕ) → get_or g.states number Unknown ≡ state_in p acts lines first number t

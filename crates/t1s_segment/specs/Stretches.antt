@@ -9,7 +9,7 @@ use Rattle.t1s_line.specs.Acts.{has_act}
 use Rattle.t1s_line.specs.CalmRuns.{IsCalmAt, silent_step}
 use Rattle.t1s_line.specs.Outcomes.{NodePhases}
 use Rattle.t1s_segment.specs.State.{EngineState}
-use Rattle.t1s_segment.specs.Upcoming.{AreComing}
+use Rattle.t1s_acts.specs.Upcoming.{AreComing}
 
 -- a noise lasts in the first tick already
 abbrev pub LastsNoise : {N : Type 0} → EngineState N → ℕ → Type 0
@@ -17,7 +17,7 @@ LastsNoise g n = (n ≡ 0) × (g.tick < g.noise_until)
 
 -- n ticks later a quarter reaches a node
 abbrev pub Reaches : {N : Type 0} → EngineState N → ℕ → Type 0
-Reaches g n = (rows : List (List (Option Quarter))) → CableStands rows g.cable → IsHeardIn g.cable.places (after_silence g.cable.places n rows)
+Reaches g n = (rows : List (List (Option Quarter))) → CableStands rows g.cable → IsHeardIn g.cable.taps (after_silence g.cable.taps n rows)
 
 module _ {N : Type 0} (p : NodePhases N) (calm : ℕ → N → Type 0) where
   -- each of these nodes is calm for n ticks from tick t on
@@ -40,5 +40,5 @@ module _ {N : Type 0} (p : NodePhases N) (calm : ℕ → N → Type 0) where
     pub no_noise : 0 < n → g.noise_until ≤ g.tick
     pub nodes : AllCalm g.tick n g.nodes
     pub coming : AreComing g.tick g.upcoming → AreComing (g.tick + n) g.upcoming
-    pub silent : (rows : List (List (Option Quarter))) → CableStands rows g.cable → (k : ℕ) → k < n → IsSilent g.cable.places (after_silence g.cable.places k rows)
+    pub silent : (rows : List (List (Option Quarter))) → CableStands rows g.cable → (k : ℕ) → k < n → IsSilent g.cable.taps (after_silence g.cable.taps k rows)
     pub ends : n < most → g.tick + n < g.end → AreComing g.tick g.upcoming → Ends g n

@@ -5,12 +5,11 @@ ghost use Rattle.t1s_segment.specs.State.{settled_after};
 use crate::calm::{nodes_calm_for, pass_all};
 use crate::machine::NodeMachine;
 use crate::offer_phase::offer_all;
-use crate::offer_states::{first_states, wait_of};
 use crate::phases::{drive_all, hear_all};
 use crate::totals::{no_totals, position_of, totals_of};
-use crate::upcoming::UpcomingActs;
 use std::alloc::{AllocError, Global};
 use std::marker::Model;
+use t1s_acts::{UpcomingActs, first_states, wait_of};
 use t1s_cable::Cable;
 use t1s_line::{NodeTotals, OfferState, Wait, Watch};
 use t1s_script::{Act, NodeLine};
@@ -56,11 +55,11 @@ impl<N> Model for Engine<N> {
 
     ghost invariant = { λ g. record {
       in_time : g.tick ≤ g.end;
-      few : length g.cable.places ≤ most_nodes;
-      free : g.cable.row ≡ no_puts g.cable.places;
-      nodes_len : length g.nodes.items ≡ length g.cable.places;
-      totals_len : length g.totals.items ≡ length g.cable.places;
-      heard_len : length g.heard.items ≡ length g.cable.places;
+      few : length g.cable.taps ≤ most_nodes;
+      free : g.cable.row ≡ no_puts g.cable.taps;
+      nodes_len : length g.nodes.items ≡ length g.cable.taps;
+      totals_len : length g.totals.items ≡ length g.cable.taps;
+      heard_len : length g.heard.items ≡ length g.cable.taps;
       heard_in_range : AreHeard g.heard.items;
     } };
 }
@@ -83,6 +82,7 @@ impl<N: NodeMachine + Drop> Engine<N> {
     ghost use Rattle.t1s_world.specs.Events.{SeesEvents};
     ghost use Rattle.t1s_script.specs.declared.script.Act.{Act};
     ghost use Rattle.t1s_script.specs.declared.script.NodeLine.{NodeLine};
+    ghost use Rattle.t1s_script.specs.Limits.{longest_stub};
     ghost use Rattle.t1s_line.specs.declared.totals.NodeTotals.{NodeTotals};
     ghost use Rattle.t1s_line.specs.Offers.{wait_of};
     ghost use Rattle.t1s_line.specs.Runs.{events_in, last_heard_in, state_in};
@@ -92,7 +92,7 @@ impl<N: NodeMachine + Drop> Engine<N> {
     ghost use Rattle.t1s_segment.specs.Stretches.{IsStretch};
 
     /// The run of these nodes, which stand in these lines of a script one by one, among these acts in the order of their
-    /// ticks, before its first tick. It takes all other memory of the run.
+    /// ticks, before its first tick. A stub is at most 31 bit times long. It takes all other memory of the run.
     pub fn new(
         alloc: Global,
         lines: &[NodeLine],
@@ -102,6 +102,7 @@ impl<N: NodeMachine + Drop> Engine<N> {
     ) -> Result<Engine<N>, AllocError>
         requires some { 1 ≤ length lines.now }
         requires few { length lines.now ≤ most_nodes }
+        requires short { All (λ (n : NodeLine). n.stub ≤ longest_stub) lines.now }
         requires numbered { AreNumbered N.phases lines.now nodes.items }
         requires in_order { IsNonDecreasing (map (λ (a : Act). a.tick) acts.now) }
         ensures { IfOk result (λ g. Plays N.phases acts.now lines.now nodes.items end 0 g) }
@@ -109,14 +110,16 @@ impl<N: NodeMachine + Drop> Engine<N> {
         let upcoming = UpcomingActs::new(alloc, acts)?;
         let states = first_states(alloc, acts)?;
         let mut places = Vec::with_capacity(alloc, lines.len())?;
+        let mut stubs = Vec::with_capacity(alloc, lines.len())?;
         let mut totals = Vec::with_capacity(alloc, lines.len())?;
         let mut heard = Vec::with_capacity(alloc, lines.len())?;
         for line in lines {
             places.push(line.place)?;
+            stubs.push(line.stub)?;
             totals.push(no_totals(line.no))?;
             heard.push((Heard::Nothing, false))?;
         }
-        let cable = Cable::new(alloc, places.as_slice())?;
+        let cable = Cable::new(alloc, places.as_slice(), stubs.as_slice())?;
         Ok(Engine {
             tick: 0,
             end,
@@ -193,7 +196,8 @@ impl<N: NodeMachine + Drop> Engine<N> {
     fn calm_for(&self, most: u64) -> u64
         ensures { IsStretch N.phases N.calm self.now most result }
     {
-        if self.tick < self.noise_until {
+        let noisy = self.tick < self.noise_until;
+        if noisy {
             return 0;
         }
         let most = most.min(self.end - self.tick);
@@ -202,8 +206,7 @@ impl<N: NodeMachine + Drop> Engine<N> {
             return 0;
         }
         let free = self.upcoming.free_for(self.tick, calm);
-        let silent = self.cable.calm_for(free);
-        silent
+        self.cable.calm_for(free)
     }
 
     /// Plays the ticks from `now()` on in which nothing happens, up to `most` and up to the end, at once, and answers how many

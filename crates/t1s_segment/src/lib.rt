@@ -6,19 +6,18 @@
 //! segment and its script in `specs/Stands.antt`.
 //!
 //! What a tick is, is written once: an `Engine` plays any nodes that are a `NodeMachine`, and stands for the run
-//! of their machine. A segment is the engine over the nodes of a script, which `track.rt` makes machines.
+//! of their machine. A segment is the engine over the nodes of a script, which `track.rt` makes machines. The acts that
+//! are still to come, and how the offers stand, are kept by `t1s_acts`.
 #![tactic(auto)]
 
 mod calm;
 mod engine;
 mod machine;
 mod offer_phase;
-mod offer_states;
 mod phases;
 mod segment;
 mod totals;
 mod track;
-mod upcoming;
 
 pub use engine::Engine;
 pub use machine::{DriveReport, HearReport, NodeMachine};

@@ -5,13 +5,12 @@ ghost use Rattle.t1s_line.specs.declared.offers.OfferState.TheVariants.{Unknown}
 ghost use Rattle.t1s_line.specs.Acts.{has_act, is_noisy, offers_at};
 ghost use Rattle.t1s_line.specs.Offers.{after_offers, after_records, offer_event, records_of};
 ghost use Rattle.t1s_line.specs.Totals.{after_refusals};
+ghost use Rattle.t1s_acts.specs.Upcoming.{AreComing, noise_end, offers_of};
 ghost use Rattle.t1s_segment.specs.Numbers.{AwaitActs, HaveTotals};
-ghost use Rattle.t1s_segment.specs.Upcoming.{AreComing, noise_end, offers_of};
 
 use crate::machine::NodeMachine;
-use crate::offer_states::keep_outcome;
 use crate::totals::{after_refusal, position_of};
-use crate::upcoming::UpcomingActs;
+use t1s_acts::{UpcomingActs, keep_outcome};
 use t1s_line::{Event, NodeTotals, OfferOutcome, OfferState, Watch};
 use t1s_ring::Queued;
 use t1s_script::Deed;

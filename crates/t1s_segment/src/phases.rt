@@ -15,8 +15,8 @@ ghost use Rattle.t1s_line.specs.Totals.{after_driving, after_hearing};
 ghost use Rattle.t1s_segment.specs.State.{AreHeard, two_phases, under_noise};
 
 use crate::machine::NodeMachine;
-use crate::offer_states::keep_leave;
 use crate::totals::{after_driving, after_hearing};
+use t1s_acts::keep_leave;
 use t1s_cable::Cable;
 use t1s_line::{NodeTotals, OfferState, Watch};
 use t1s_symbols::Heard;
@@ -30,9 +30,9 @@ fn both(first: bool, second: bool) -> bool
 
 /// What arrives at a node: many signals while there is a noise, and else what the cable brings.
 fn arriving(cable: &Cable, noisy: bool, node: u8) -> Heard
-    requires { node < length cable.now.places }
+    requires { node < length cable.now.taps }
     ensures value { (rows : List (List (Option Quarter))) →
-        Stands rows cable.now → result ≡ under_noise noisy (heard (at_depth rows) cable.now.places node) }
+        Stands rows cable.now → result ≡ under_noise noisy (heard (at_depth rows) cable.now.taps node) }
     ensures range { IsHeard result }
 {
     if noisy {
@@ -52,13 +52,13 @@ pub fn drive_all<N: NodeMachine, W: Watch>(
     tick: u64,
     watch: &mut W,
 ) -> bool
-    requires places { length cable.old.places ≡ length nodes.old }
+    requires taps { length cable.old.taps ≡ length nodes.old }
     requires totals { length totals.old ≡ length nodes.old }
     requires few { length nodes.old ≤ most_nodes }
-    requires free { cable.old.row ≡ no_puts cable.old.places }
+    requires free { cable.old.row ≡ no_puts cable.old.taps }
     ensures nodes { nodes.new ≡ after_drive (two_phases N.phases) tick nodes.old }
-    ensures places { cable.new.places ≡ cable.old.places }
-    ensures put { (past : List (List (Option Quarter))) → Stands (no_puts cable.old.places ∷ past) cable.old →
+    ensures taps { cable.new.taps ≡ cable.old.taps }
+    ensures put { (past : List (List (Option Quarter))) → Stands (no_puts cable.old.taps ∷ past) cable.old →
         Stands (row_of (two_phases N.phases) tick nodes.old ∷ past) cable.new }
     ensures totals { totals.new ≡ each_with after_driving totals.old (drive_outcomes (two_phases N.phases) tick nodes.old) }
     ensures states { (number : ℕ) → get_or states.new number Unknown ≡
@@ -88,22 +88,22 @@ pub fn hear_all<N: NodeMachine, W: Watch>(
     tick: u64,
     watch: &mut W,
 )
-    requires nodes { length nodes.old ≡ length cable.now.places }
-    requires totals { length totals.old ≡ length cable.now.places }
-    requires last { length last.old ≡ length cable.now.places }
-    requires few { length cable.now.places ≤ most_nodes }
+    requires nodes { length nodes.old ≡ length cable.now.taps }
+    requires totals { length totals.old ≡ length cable.now.taps }
+    requires last { length last.old ≡ length cable.now.taps }
+    requires few { length cable.now.taps ≤ most_nodes }
     requires in_range { AreHeard last.old }
     ensures nodes { (rows : List (List (Option Quarter))) → Stands rows cable.now →
-        nodes.new ≡ after_hear (two_phases N.phases) tick (λ j. under_noise noisy (heard (at_depth rows) cable.now.places j)) 0 nodes.old }
+        nodes.new ≡ after_hear (two_phases N.phases) tick (λ j. under_noise noisy (heard (at_depth rows) cable.now.taps j)) 0 nodes.old }
     ensures totals { (rows : List (List (Option Quarter))) → Stands rows cable.now →
         totals.new ≡ each_with after_hearing totals.old
-        (hear_outcomes (two_phases N.phases) tick (λ j. under_noise noisy (heard (at_depth rows) cable.now.places j)) 0 nodes.old) }
+        (hear_outcomes (two_phases N.phases) tick (λ j. under_noise noisy (heard (at_depth rows) cable.now.taps j)) 0 nodes.old) }
     ensures last { (rows : List (List (Option Quarter))) → Stands rows cable.now →
         last.new ≡ map heard_tick
-        (hear_outcomes (two_phases N.phases) tick (λ j. under_noise noisy (heard (at_depth rows) cable.now.places j)) 0 nodes.old) }
+        (hear_outcomes (two_phases N.phases) tick (λ j. under_noise noisy (heard (at_depth rows) cable.now.taps j)) 0 nodes.old) }
     ensures events { (rows : List (List (Option Quarter))) → Stands rows cable.now →
         SeesEvents W.sees watch.old (hear_events_of
-        (hear_outcomes (two_phases N.phases) tick (λ j. under_noise noisy (heard (at_depth rows) cable.now.places j)) 0 nodes.old)) watch.new }
+        (hear_outcomes (two_phases N.phases) tick (λ j. under_noise noisy (heard (at_depth rows) cable.now.taps j)) 0 nodes.old)) watch.new }
     ensures in_range { AreHeard last.new }
 {
     for j in 0..nodes.len() {

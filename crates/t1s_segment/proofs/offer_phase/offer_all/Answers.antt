@@ -3,8 +3,8 @@ use Rattle.t1s_world.specs.Events.{SeesEvents}
 use Rattle.t1s_line.specs.declared.offers.OfferState.TheVariants.{Unknown}
 use Rattle.t1s_line.specs.Acts.{Offer}
 use Rattle.t1s_line.specs.Offers.{offer_event, records_of}
-use Rattle.t1s_segment.specs.Upcoming.{offers_of}
-use Rattle.t1s_segment.proofs.ActSteps.{no_offers, none_due}
+use Rattle.t1s_acts.specs.Upcoming.{offers_of}
+use Rattle.t1s_acts.proofs.ActSteps.{no_offers, none_due}
 use Rattle.t1s_segment.proofs.DueActs.{one_less, coming_rest, later_acts, later_offers, later_noise, nodes_split, totals_split, states_split, events_split}
 use Rattle.t1s_segment.proofs.OfferSteps.{still_have}
 use Rattle.t1s_segment.proofs.offer_phase.offer_all.Goals as goal

@@ -5,7 +5,7 @@ use Rattle.t1s_line.specs.Acts.{has_act, is_noisy, offers_at}
 use Rattle.t1s_line.specs.Offers.{after_offers, after_records, offer_event, records_of}
 use Rattle.t1s_line.specs.Totals.{after_refusals}
 use Rattle.t1s_segment.specs.Numbers.{AwaitActs}
-use Rattle.t1s_segment.specs.Upcoming.{AreComing}
+use Rattle.t1s_acts.specs.Upcoming.{AreComing}
 use Rattle.t1s_segment.proofs.offer_phase.offer_all.Given as goal
 
 abbrev pub decreases-loop-deed : goal.decreases-loop-deed

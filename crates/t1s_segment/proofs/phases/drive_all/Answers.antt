@@ -23,16 +23,16 @@ loop-i-preserved g c =
     let is = c.index-nodes-i.is in
     let before = c.loop-i.invariant in
     let drives = c.drive-report.ensures in
-    let more = put_more m t xs ys i x lt before.nodes is c.args.cable.now.places c.requires.places in
+    let more = put_more m t xs ys i x lt before.nodes is c.args.cable.now.taps c.requires.taps in
     let ms = c.loop-i.totals in
     let n : NodeTotals = get_or ms i (no_totals 0) in
     let at = get_or_default ms i (no_totals 0) n (omega arith) in
     record {
       nodes = rw (drives.node, ← is) (nodes_more m t xs ys i x lt before.nodes is);
-      places = c.put.ensures.places ∙ before.places;
+      taps = c.put.ensures.taps ∙ before.taps;
       row = rw (c.put.ensures.row, before.row, drives.quarter, ← is) more;
       put = λ past stands.
-          let row = row_of m t (take i xs) ++ drop i (no_puts c.args.cable.now.places) in
+          let row = row_of m t (take i xs) ++ drop i (no_puts c.args.cable.now.taps) in
           rw (drives.quarter, ← is, more) at (c.put.ensures.stands row past (before.put past stands));
       totals =
           rw (c.after_driving.ensures (m.drive t x).1 (rw (← is) at drives.note))
@@ -51,5 +51,5 @@ loop-i-preserved g c =
 pub returns-clause-put : goal.returns-clause-put
 returns-clause-put g c past stands =
     let m = two_phases g.N.NodeMachine.phases in
-    let all = all_put m c.args.tick c.args.nodes.now c.args.cable.now.places c.loop-i.i c.requires.places (omega arith) in
+    let all = all_put m c.args.tick c.args.nodes.now c.args.cable.now.taps c.loop-i.i c.requires.taps (omega arith) in
     rw all at (c.loop-i.invariant.put past stands)

@@ -15,10 +15,10 @@ abbrev pub invariant-loop-i : goal.invariant-loop-i
 invariant-loop-i g l =
     record {
       nodes : l.nodes ≡ after_drive (two_phases g.N.NodeMachine.phases) l.tick (take l.i l.initial.nodes) ++ drop l.i l.initial.nodes;
-      places : l.cable.places ≡ l.initial.cable.places;
-      row : l.cable.row ≡ row_of (two_phases g.N.NodeMachine.phases) l.tick (take l.i l.initial.nodes) ++ drop l.i (no_puts l.initial.cable.places);
-      put : (past : List (List (Option Quarter))) → Stands (no_puts l.initial.cable.places ∷ past) l.initial.cable →
-          Stands ((row_of (two_phases g.N.NodeMachine.phases) l.tick (take l.i l.initial.nodes) ++ drop l.i (no_puts l.initial.cable.places)) ∷ past) l.cable;
+      taps : l.cable.taps ≡ l.initial.cable.taps;
+      row : l.cable.row ≡ row_of (two_phases g.N.NodeMachine.phases) l.tick (take l.i l.initial.nodes) ++ drop l.i (no_puts l.initial.cable.taps);
+      put : (past : List (List (Option Quarter))) → Stands (no_puts l.initial.cable.taps ∷ past) l.initial.cable →
+          Stands ((row_of (two_phases g.N.NodeMachine.phases) l.tick (take l.i l.initial.nodes) ++ drop l.i (no_puts l.initial.cable.taps)) ∷ past) l.cable;
       totals : l.totals ≡ each_with after_driving (take l.i l.initial.totals) (drive_outcomes (two_phases g.N.NodeMachine.phases) l.tick (take l.i l.initial.nodes)) ++ drop l.i l.initial.totals;
       states : (k : ℕ) → get_or l.states k Unknown ≡ after_leaves l.tick k (get_or l.initial.states k Unknown) (drive_outcomes (two_phases g.N.NodeMachine.phases) l.tick (take l.i l.initial.nodes));
       events : SeesEvents g.W.Watch.sees l.initial.watch (drive_events_of (drive_outcomes (two_phases g.N.NodeMachine.phases) l.tick (take l.i l.initial.nodes))) l.watch;

@@ -33,21 +33,21 @@ loop-j-preserved g c =
     let kept = get_or_default ls j silence l (omega arith) in
     record {
       nodes = λ rows stands.
-          let h : ℕ → Heard = λ k. under_noise c.args.noisy (heard (at_depth rows) c.args.cable.now.places k) in
+          let h : ℕ → Heard = λ k. under_noise c.args.noisy (heard (at_depth rows) c.args.cable.now.taps k) in
           rw (hears.node, ← is, c.arriving-heard.ensures.value rows stands)
           (after_hear_more m t h xs c.loop-j.nodes j x lt (before.nodes rows stands) is);
       totals = λ rows stands.
-          let h : ℕ → Heard = λ k. under_noise c.args.noisy (heard (at_depth rows) c.args.cable.now.places k) in
+          let h : ℕ → Heard = λ k. under_noise c.args.noisy (heard (at_depth rows) c.args.cable.now.taps k) in
           let arrival = rw (← is, c.arriving-heard.ensures.value rows stands) at hears.arrival in
           let clash = rw (← is, c.arriving-heard.ensures.value rows stands) at hears.clash in
           rw (c.after_hearing.ensures (m.hear t (h j) x).1 arrival clash)
           (each_more m t xs c.loop-j.nodes j x lt h (before.nodes rows stands) is after_hearing c.args.totals.now ms n (omega arith) (before.totals rows stands) at);
       last = λ rows stands.
-          let h : ℕ → Heard = λ k. under_noise c.args.noisy (heard (at_depth rows) c.args.cable.now.places k) in
+          let h : ℕ → Heard = λ k. under_noise c.args.noisy (heard (at_depth rows) c.args.cable.now.taps k) in
           rw (hears.heard, hears.drove, ← is, c.arriving-heard.ensures.value rows stands)
           (each_more m t xs c.loop-j.nodes j x lt h (before.nodes rows stands) is kept_last c.args.last.now ls l (omega arith) (before.last rows stands) kept);
       events = λ rows stands.
-          let h : ℕ → Heard = λ k. under_noise c.args.noisy (heard (at_depth rows) c.args.cable.now.places k) in
+          let h : ℕ → Heard = λ k. under_noise c.args.noisy (heard (at_depth rows) c.args.cable.now.taps k) in
           let told = rw (← is, c.arriving-heard.ensures.value rows stands) at hears.events in
           rw (heard_more m t xs c.loop-j.nodes j x lt h (before.nodes rows stands) is)
           (SeesEvents-append g.W.Watch.sees c.args.watch.now c.loop-j.watch c.hear-report.new.watch (hear_events_of (hear_outcomes m t h 0 (take j xs))) (m.hear t (h j) x).1.events (before.events rows stands) told);
@@ -57,7 +57,7 @@ loop-j-preserved g c =
 pub returns-clause-last : goal.returns-clause-last
 returns-clause-last g c rows stands =
     let m = two_phases g.N.NodeMachine.phases in
-    let h : ℕ → Heard = λ k. under_noise c.args.noisy (heard (at_depth rows) c.args.cable.now.places k) in
+    let h : ℕ → Heard = λ k. under_noise c.args.noisy (heard (at_depth rows) c.args.cable.now.taps k) in
     let xs = c.args.nodes.now in
     let ticks = c.args.last.now in
     let ds = hear_outcomes m c.args.tick h 0 xs in

@@ -15,12 +15,12 @@ abbrev pub invariant-loop-j : goal.invariant-loop-j
 invariant-loop-j g l =
     record {
       nodes : (rows : List (List (Option Quarter))) → Stands rows l.cable →
-          l.nodes ≡ after_hear (two_phases g.N.NodeMachine.phases) l.tick (λ j. under_noise l.noisy (heard (at_depth rows) l.cable.places j)) 0 (take l.j l.initial.nodes) ++ drop l.j l.initial.nodes;
+          l.nodes ≡ after_hear (two_phases g.N.NodeMachine.phases) l.tick (λ j. under_noise l.noisy (heard (at_depth rows) l.cable.taps j)) 0 (take l.j l.initial.nodes) ++ drop l.j l.initial.nodes;
       totals : (rows : List (List (Option Quarter))) → Stands rows l.cable →
-          l.totals ≡ each_with after_hearing (take l.j l.initial.totals) (hear_outcomes (two_phases g.N.NodeMachine.phases) l.tick (λ j. under_noise l.noisy (heard (at_depth rows) l.cable.places j)) 0 (take l.j l.initial.nodes)) ++ drop l.j l.initial.totals;
+          l.totals ≡ each_with after_hearing (take l.j l.initial.totals) (hear_outcomes (two_phases g.N.NodeMachine.phases) l.tick (λ j. under_noise l.noisy (heard (at_depth rows) l.cable.taps j)) 0 (take l.j l.initial.nodes)) ++ drop l.j l.initial.totals;
       last : (rows : List (List (Option Quarter))) → Stands rows l.cable →
-          l.last ≡ each_with kept_last (take l.j l.initial.last) (hear_outcomes (two_phases g.N.NodeMachine.phases) l.tick (λ j. under_noise l.noisy (heard (at_depth rows) l.cable.places j)) 0 (take l.j l.initial.nodes)) ++ drop l.j l.initial.last;
+          l.last ≡ each_with kept_last (take l.j l.initial.last) (hear_outcomes (two_phases g.N.NodeMachine.phases) l.tick (λ j. under_noise l.noisy (heard (at_depth rows) l.cable.taps j)) 0 (take l.j l.initial.nodes)) ++ drop l.j l.initial.last;
       events : (rows : List (List (Option Quarter))) → Stands rows l.cable →
-          SeesEvents g.W.Watch.sees l.initial.watch (hear_events_of (hear_outcomes (two_phases g.N.NodeMachine.phases) l.tick (λ j. under_noise l.noisy (heard (at_depth rows) l.cable.places j)) 0 (take l.j l.initial.nodes))) l.watch;
+          SeesEvents g.W.Watch.sees l.initial.watch (hear_events_of (hear_outcomes (two_phases g.N.NodeMachine.phases) l.tick (λ j. under_noise l.noisy (heard (at_depth rows) l.cable.taps j)) 0 (take l.j l.initial.nodes))) l.watch;
       in_range : AreHeard l.last;
     }

@@ -1,4 +1,3 @@
-use Rattle.std.proofs.Common.{arith}
 use Rattle.t1s_segment.specs.State.{EngineState}
 use Rattle.t1s_segment.proofs.EngineStretches.{all_calm, node_first}
 use Rattle.t1s_segment.proofs.engine.Engine.calm_for.Goals as goal
@@ -20,7 +19,7 @@ returns-then-calm-eq0 g c =
       heard = old.heard.items;
     } in
     rw (← c.self.view_is)
-    (node_first m.phases m.calm before c.args.most c.self.invariant.in_time c.if-self.false c.min-most.result c.min-most.ensures c.nodes_calm_for-calm.result c.if-calm-eq0.true
+    (node_first m.phases m.calm before c.args.most c.self.invariant.in_time c.if-noisy.false c.min-most.result c.min-most.ensures c.nodes_calm_for-calm.result c.if-calm-eq0.true
     (rw c.as_slice.ensures.value at c.nodes_calm_for-calm.ensures.ends))
 
 pub returns : goal.returns
@@ -39,10 +38,10 @@ returns g c =
       states = old.states.items;
       heard = old.heard.items;
     } in
-    let silent = c.calm_for-silent.ensures in
+    let silent = c.calm_for.ensures in
     rw (← c.self.view_is)
-    (all_calm m.phases m.calm before c.args.most c.self.invariant.in_time c.if-self.false c.min-most.result c.min-most.ensures c.nodes_calm_for-calm.result c.free_for-free.result
-    c.calm_for-silent.result c.nodes_calm_for-calm.ensures.within
+    (all_calm m.phases m.calm before c.args.most c.self.invariant.in_time c.if-noisy.false c.min-most.result c.min-most.ensures c.nodes_calm_for-calm.result c.free_for-free.result
+    c.calm_for.result c.nodes_calm_for-calm.ensures.within
     (rw c.as_slice.ensures.value at c.nodes_calm_for-calm.ensures.calm)
     (rw c.as_slice.ensures.value at c.nodes_calm_for-calm.ensures.ends)
     c.free_for-free.ensures silent.most silent.calm (λ short rows stands. silent.greatest rows stands short))

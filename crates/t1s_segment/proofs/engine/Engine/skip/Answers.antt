@@ -1,9 +1,7 @@
-use Rattle.std.proofs.Common.{◌+◌, ◌≡◌, ◌≤◌, ◌∙◌, Bool, List, ap, arith, false, get_or, length, map, refl, replicate, rules}
+use Rattle.std.proofs.Common.{◌+◌, ◌≡◌, ◌≤◌, ◌∙◌, Bool, arith, false, length, refl}
 use Rattle.std.proofs.lemmas.List.{with_items_is}
 use Rattle.t1s_symbols.specs.declared.Heard.{Heard}
 use Rattle.t1s_symbols.specs.declared.Heard.TheVariants.{Nothing}
-use Rattle.t1s_line.specs.declared.offers.OfferState.{OfferState}
-use Rattle.t1s_line.specs.declared.offers.OfferState.TheVariants.{Unknown}
 use Rattle.t1s_segment.specs.State.{EngineState}
 use Rattle.t1s_segment.specs.Stretches.{IsStretch}
 use Rattle.t1s_segment.proofs.NodeStretches.{filled}
@@ -35,7 +33,7 @@ returns g c =
     } in
     let stretch : IsStretch m.phases m.calm before c.args.most n = rw (← c.self.view_is) at c.calm_for-n.ensures in
     let silence : Heard × Bool = (Nothing, false) in
-    let sizes : length old.heard.items ≡ length old.cable.places = c.self.invariant.heard_len in
+    let sizes : length old.heard.items ≡ length old.cable.taps = c.self.invariant.heard_len in
     let skips : SkipStep m.passed before after n = record {
       tick = refl;
       end = refl;
@@ -43,11 +41,11 @@ returns g c =
       upcoming = refl;
       noise_until = refl;
       nodes = rw c.as_mut_slice.ensures.value at c.pass_all.ensures.nodes;
-      places = c.pass.ensures.places;
+      taps = c.pass.ensures.taps;
       cable = c.pass.ensures.stands;
       totals = refl;
       states = refl;
-      heard = rw (c.as_mut_slice-2.ensures.value, sizes) at c.pass_all.ensures.last ∙ filled silence old.cable.places;
+      heard = rw (c.as_mut_slice-2.ensures.value, sizes) at c.pass_all.ensures.last ∙ filled silence old.cable.taps;
     } in
     let in_time : old.tick + n ≤ old.end = stretch.in_time in
     let nodes_left = with_items_is old.nodes c.pass_all.new.nodes (omega arith) in
@@ -63,7 +61,7 @@ returns g c =
             in_time = next.in_time;
             tick = next.tick;
             end_is = next.end_is;
-            places = next.places;
+            taps = next.taps;
             numbered = next.numbered;
             coming = next.coming;
             due = next.due;

@@ -25,3 +25,6 @@ new-requires-clause-numbered c =
     let all : length lines ≤ c.loop-line.line-index = omega arith in
     let tracks = rw (take_all c.loop-line.line-index lines all) at c.loop-line.invariant in
     rw (tracks, c.as_slice-lines.ensures) (tracks_numbered c.args.s.now c.requires)
+
+pub new-requires-clause-short : goal.new-requires-clause-short
+new-requires-clause-short c = rw c.as_slice-lines.ensures (λ k d lt. (c.requires.nodes k d lt).stub_high)

@@ -2,7 +2,8 @@
 use Rattle.std.specs.Prelude.{ℕ, List, [], ◌∷◌, Option, None, Some, codes, decimal}
 use Rattle.t1s_script.specs.declared.fitness.Unfit.{Unfit}
 use Rattle.t1s_script.specs.declared.script.Script.{Script}
-use Rattle.t1s_script.specs.Fit.{span_of, start_bound, unmet}
+use Rattle.t1s_script.specs.Fit.{start_bound, unmet}
+use Rattle.t1s_script.specs.Taps.{span_of}
 use Rattle.t1s_report.specs.Lines.{line}
 
 -- the line of a script that is fit: the span and the bound of a start

@@ -33,8 +33,9 @@ use Rattle.t1s_world.specs.Events.{events_below}
 use Rattle.t1s_world.proofs.SingleSender.{hears_one}
 use Rattle.t1s_script.specs.declared.script.NodeLine.{NodeLine}
 use Rattle.t1s_script.specs.declared.script.Script.{Script}
+use Rattle.t1s_script.specs.Taps.{tap_of, taps_of}
 use Rattle.t1s_line.specs.Happenings.{IsArrival}
-use Rattle.t1s_line.specs.World.{machine_of, places_of, first_tracks, driven_in, start_of, heard_in}
+use Rattle.t1s_line.specs.World.{machine_of, first_tracks, driven_in, start_of, heard_in}
 use Rattle.t1s_reception.specs.Receptions.{receiver_after}
 use Rattle.t1s_reception.specs.HeardAlone.{Sending, frame_piece, symbols_sent, first_h, way, IsSending, HearsAlone, HeardAloneArrives}
 use Rattle.t1s_reception.proofs.NodeReceivers.{node_ticks, next_receiver, piece_told}
@@ -92,11 +93,11 @@ module _ (s : Script) (i j : ℕ) (x : Sending) (sent : IsSending s i x) (alone 
   unfolding heard_in
   hears_quarter m lt q driven =
       let only = alone.only m lt in
-      let places : length (places_of s) ≡ length s.nodes = length-map s.nodes (λ (n : NodeLine). n.place) in
+      let taps : length (taps_of s) ≡ length s.nodes = length-map s.nodes tap_of in
       let back : first + m - way s j i ≡ x.start + m = omega arith in
-      let comes = hears_one (machine_of s) (places_of s) (first_tracks s) (first + m) j i q (omega (arith, places, alone.there)) alone.other (omega arith)
+      let comes = hears_one (machine_of s) (taps_of s) (first_tracks s) (first + m) j i q (omega (arith, taps, alone.there)) alone.other (omega arith)
       (ap (driven_in s i) back ∙ driven)
-      (λ k within apart theirs near. only.others k (omega (arith, places, within)) apart theirs near) in
+      (λ k within apart theirs near. only.others k (omega (arith, taps, within)) apart theirs near) in
       rw (le-ltb (first + m) (start_of s j) only.started, only.quiet) comes
 
   hears : (m : ℕ) → m < ticks → slice_get (flat_map quarters symbols) (0 + m) ≡ Some (heard_in s j (first + m))
@@ -176,5 +177,5 @@ module _ (s : Script) (i j : ℕ) (x : Sending) (sent : IsSending s i x) (alone 
 
 pub heard_alone_arrives : HeardAloneArrives
 heard_alone_arrives s i j x sent alone =
-    let none : NodeLine = record { no = 0; id = 0; place = 0; to = 0; start = 0; draws = None } in
+    let none : NodeLine = record { no = 0; id = 0; place = 0; stub = 0; to = 0; start = 0; draws = None } in
     arrives_in_time s i j x sent alone (get_or s.nodes j none) (slice_get-get_or s.nodes j none alone.here)

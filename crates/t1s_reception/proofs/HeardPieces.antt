@@ -21,6 +21,6 @@ shows_at s T node j line found is =
 
 pub captures_show_arrivals : CapturesShowArrivals
 captures_show_arrivals s T node j is =
-    let none : NodeLine = record { no = 0; id = 0; place = 0; to = 0; start = 0; draws = None } in
+    let none : NodeLine = record { no = 0; id = 0; place = 0; stub = 0; to = 0; start = 0; draws = None } in
     let there = (position-Some (λ (n : NodeLine). n.no == node) s.nodes j none is).0 in
     shows_at s T node j (get_or s.nodes j none) (slice_get-get_or s.nodes j none there) is

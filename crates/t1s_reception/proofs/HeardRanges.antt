@@ -25,11 +25,12 @@ use Rattle.t1s_world.proofs.ListLemmas.{slice_get-map}
 use Rattle.t1s_world.proofs.WorldLemmas.{past-zero, kept_next, driven_is, driven_past, at_depth-within, at_depth-before}
 use Rattle.t1s_script.specs.declared.script.NodeLine.{NodeLine}
 use Rattle.t1s_script.specs.declared.script.Script.{Script}
+use Rattle.t1s_script.specs.Taps.{taps_of}
 use Rattle.t1s_line.specs.declared.track.Track.{Track}
 use Rattle.t1s_line.specs.Acts.{offers_to, is_noisy}
 use Rattle.t1s_line.specs.Outcomes.{with_offers}
 use Rattle.t1s_line.specs.Track.{track_phases, offer_track, drive_track, hear_track}
-use Rattle.t1s_line.specs.World.{machine_of, world, places_of, first_track, first_tracks, driven_in, start_of, heard_in}
+use Rattle.t1s_line.specs.World.{machine_of, world, first_track, first_tracks, driven_in, start_of, heard_in}
 use Rattle.t1s_line.proofs.HeardTicks.{offer_before, offer_started, drive_before, drive_started, hear_before, hear_started}
 
 -- ---- the transmitter
@@ -156,40 +157,40 @@ module _ (s : Script) where
     fits_at : (t : ℕ) → FitsAt t
     fits_at zero = record {
       track = first_track s line;
-      at = rw (past-zero (machine_of s) (places_of s) (first_tracks s)) (slice_get-map (first_track s) s.nodes j line found);
+      at = rw (past-zero (machine_of s) (taps_of s) (first_tracks s)) (slice_get-map (first_track s) s.nodes j line found);
       fits = record { stage = tt; part = omega arith };
     }
     fits_at (suc t) =
         let h = fits_at t in
         record {
           track = _;
-          at = kept_next (machine_of s) (places_of s) (first_tracks s) t j h.track h.at;
+          at = kept_next (machine_of s) (taps_of s) (first_tracks s) t j h.track h.at;
           fits = subst TxFits (sym (hear_tx t _ (drive_track t (offered t h.track)).0)) (drive_fits t (offered t h.track) (offered_fits t h.track h.fits)).0;
         }
 
     node_driven : (t : ℕ) → IfSome (driven_in s j t) IsQuarter
     node_driven t =
         let h = fits_at t in
-        subst (λ (o : Option Quarter). IfSome o IsQuarter) (sym (driven_is (machine_of s) (places_of s) (first_tracks s) t j h.track h.at))
+        subst (λ (o : Option Quarter). IfSome o IsQuarter) (sym (driven_is (machine_of s) (taps_of s) (first_tracks s) t j h.track h.at))
         (drive_fits t (offered t h.track) (offered_fits t h.track h.fits)).1
 
   pub driven_fits : (j t : ℕ) → IfSome (driven_in s j t) IsQuarter
   driven_fits j t = elim (slice_get_cases s.nodes j).1 [
     | inl here ↦ node_driven j here.0 here.2 t
     | inr past ↦
-        let none = driven_past (machine_of s) (places_of s) (first_tracks s) t j (omega (arith, past.0, length-map s.nodes (first_track s))) in
+        let none = driven_past (machine_of s) (taps_of s) (first_tracks s) t j (omega (arith, past.0, length-map s.nodes (first_track s))) in
         subst (λ (o : Option Quarter). IfSome o IsQuarter) (sym none) tt
   ]
 
-  rows_fit : (t i d : ℕ) → IfSome (at_depth (past (machine_of s) (places_of s) (first_tracks s) t).rows i d) IsQuarter
+  rows_fit : (t i d : ℕ) → IfSome (at_depth (past (machine_of s) (taps_of s) (first_tracks s) t).rows i d) IsQuarter
   rows_fit t i d = elim (cases_lt d t) [
     | inl lt ↦
         subst (λ (o : Option Quarter). IfSome o IsQuarter)
-        (sym (at_depth-within (machine_of s) (places_of s) (first_tracks s) t d (t - suc d) i (omega (arith, lt))))
+        (sym (at_depth-within (machine_of s) (taps_of s) (first_tracks s) t d (t - suc d) i (omega (arith, lt))))
         (driven_fits i (t - suc d))
     | inr ge ↦
         subst (λ (o : Option Quarter). IfSome o IsQuarter)
-        (sym (at_depth-before (machine_of s) (places_of s) (first_tracks s) t d i ge)) tt
+        (sym (at_depth-before (machine_of s) (taps_of s) (first_tracks s) t d i ge)) tt
   ]
 
   pub heard_fits : (j t : ℕ) → IsHeard (heard_in s j t)
@@ -197,8 +198,8 @@ module _ (s : Script) where
   heard_fits j t = by_test (nat_lt t (start_of s j)) (is_noisy s.acts t)
     where
       by_test : (before noisy : Bool)
-          → IsHeard (if before then Nothing else (if noisy then Many else heard_at (machine_of s) (places_of s) (first_tracks s) t j))
+          → IsHeard (if before then Nothing else (if noisy then Many else heard_at (machine_of s) (taps_of s) (first_tracks s) t j))
       by_test true noisy = tt
       by_test false true = tt
       by_test false false =
-          heard_in_range (at_depth (past (machine_of s) (places_of s) (first_tracks s) (suc t)).rows) (rows_fit (suc t)) j (places_of s)
+          heard_in_range (at_depth (past (machine_of s) (taps_of s) (first_tracks s) (suc t)).rows) (rows_fit (suc t)) j (taps_of s)

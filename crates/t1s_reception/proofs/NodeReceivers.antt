@@ -17,12 +17,13 @@ use Rattle.t1s_world.proofs.ListLemmas.{get_or-map, slice_get-map}
 use Rattle.t1s_world.proofs.WorldLemmas.{past-zero, kept_next, driven_is, hear_outcome_is}
 use Rattle.t1s_script.specs.declared.script.NodeLine.{NodeLine}
 use Rattle.t1s_script.specs.declared.script.Script.{Script}
+use Rattle.t1s_script.specs.Taps.{taps_of}
 use Rattle.t1s_line.specs.declared.track.Track.{Track}
 use Rattle.t1s_line.specs.Acts.{offers_to, with_noise}
 use Rattle.t1s_line.specs.Outcomes.{HearOutcome, with_offers}
 use Rattle.t1s_line.specs.Runs.{hearings_in}
 use Rattle.t1s_line.specs.Track.{track_phases, offer_track, drive_track, driven_track, hear_track}
-use Rattle.t1s_line.specs.World.{machine_of, world, places_of, first_track, first_tracks, driven_in, hearings_at, piece_at, start_of, heard_by, heard_in, position_of, tick_in}
+use Rattle.t1s_line.specs.World.{machine_of, world, first_track, first_tracks, driven_in, hearings_at, piece_at, start_of, heard_by, heard_in, position_of, tick_in}
 use Rattle.t1s_line.proofs.HeardTicks.{offer_before, offer_started, drive_before, drive_started, hear_before, hear_started, offers_start}
 use Rattle.t1s_report.specs.HeardText.{ticks_heard}
 use Rattle.t1s_capture.specs.Cut.{Tick}
@@ -58,7 +59,7 @@ module _ (s : Script) (j : ℕ) (line : NodeLine) (found : slice_get s.nodes j �
 
   module _ (t : ℕ) (k : Track) (at : slice_get (world s t).nodes j ≡ Some k) (start : k.start ≡ line.start) where
     abbrev arrives : Heard
-    arrives = with_noise s.acts t (heard_at (machine_of s) (places_of s) (first_tracks s) t j)
+    arrives = with_noise s.acts t (heard_at (machine_of s) (taps_of s) (first_tracks s) t j)
 
     abbrev offered : Track
     offered = with_offers track_phases t (offers_to s.acts t k.no) k
@@ -70,7 +71,7 @@ module _ (s : Script) (j : ℕ) (line : NodeLine) (found : slice_get s.nodes j �
     offered_start = offers_start t (offers_to s.acts t k.no) k ∙ start
 
     drives : driven_in s j t ≡ (drive_track t offered).1.quarter
-    drives = driven_is (machine_of s) (places_of s) (first_tracks s) t j k at
+    drives = driven_is (machine_of s) (taps_of s) (first_tracks s) t j k at
 
     hears_before : t < line.start → heard_in s j t ≡ Nothing
     unfolding heard_in
@@ -108,10 +109,10 @@ module _ (s : Script) (j : ℕ) (line : NodeLine) (found : slice_get s.nodes j �
     piece_is : piece_at s j t ≡ heard_track.1.event
     unfolding piece_at hearings_in
     piece_is =
-        get_or-map (λ (d : HearOutcome). d.event) (hearings_at s t) j _ None (hear_outcome_is (machine_of s) (places_of s) (first_tracks s) t j k at)
+        get_or-map (λ (d : HearOutcome). d.event) (hearings_at s t) j _ None (hear_outcome_is (machine_of s) (taps_of s) (first_tracks s) t j k at)
 
     next_track : slice_get (world s (suc t)).nodes j ≡ Some heard_track.0
-    next_track = kept_next (machine_of s) (places_of s) (first_tracks s) t j k at
+    next_track = kept_next (machine_of s) (taps_of s) (first_tracks s) t j k at
 
   -- ---- all ticks
 
@@ -153,7 +154,7 @@ module _ (s : Script) (j : ℕ) (line : NodeLine) (found : slice_get s.nodes j �
   unfolding events_below
   has_receiver zero = record {
     track = first_track s line;
-    at = rw (past-zero (machine_of s) (places_of s) (first_tracks s)) (slice_get-map (first_track s) s.nodes j line found);
+    at = rw (past-zero (machine_of s) (taps_of s) (first_tracks s)) (slice_get-map (first_track s) s.nodes j line found);
     start = refl;
     early = λ le. refl;
     receiver = refl;

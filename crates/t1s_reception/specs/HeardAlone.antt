@@ -7,11 +7,12 @@ use Rattle.t1s_grammar.specs.Burst.{Piece, IsPieceInRange, pieces_symbols}
 use Rattle.t1s_grammar.specs.Sent.{sent_piece}
 use Rattle.t1s_pcs_tx.specs.Runs.{all_quarters}
 use Rattle.t1s_pcs_rx.specs.declared.piece.Kind.TheVariants.{Good}
-use Rattle.t1s_world.specs.Hearing.{distance}
+use Rattle.t1s_harness.specs.Distances.{distance}
 use Rattle.t1s_script.specs.declared.script.Script.{Script}
+use Rattle.t1s_script.specs.Taps.{taps_of}
 use Rattle.t1s_line.specs.Acts.{is_noisy}
 use Rattle.t1s_line.specs.Happenings.{IsArrival}
-use Rattle.t1s_line.specs.World.{places_of, driven_in, start_of, heard_in}
+use Rattle.t1s_line.specs.World.{driven_in, start_of, heard_in}
 
 -- What a node drives from a tick on: some pieces of a run, and then the piece of a frame. That is what a transmitter sends for the
 -- frame, with as many J before it and after as many scrambled bits as there were, and R closes it.
@@ -35,7 +36,7 @@ first_h x = x.start + 4 * (length (pieces_symbols x.earlier) + x.lead)
 module _ (s : Script) where
   -- how far the node at position i is from that at position j, in bit times
   abbrev pub way : ℕ → ℕ → ℕ
-  way j i = distance (get_or (places_of s) j 0) (get_or (places_of s) i 0)
+  way j i = distance (taps_of s) j i
 
   -- The node at position i drives this, quarter by quarter: at most 4096 pieces, of which each may stand in a run. What it drives
   -- after them is free.

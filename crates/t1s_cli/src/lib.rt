@@ -58,4 +58,6 @@ mod pcap_tests;
 #[cfg(test)]
 mod stream_tests;
 #[cfg(test)]
+mod stub_tests;
+#[cfg(test)]
 mod tests;

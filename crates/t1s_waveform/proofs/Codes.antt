@@ -1,10 +1,13 @@
--- The wires of a node have codes of their own, and its changes have these codes.
-use Rattle.std.proofs.Common.{◌≡◌, ℕ, zero, suc, ◌+◌, ◌*◌, ◌%◌, ◌<◌, ◌≤◌, Bool, List, [], ◌∷◌, ◌++◌, refl, sym, subst, inl, inr, arith}
+-- The wires of a node have codes of their own, and its changes are of these wires; so is what a node hears.
+use Rattle.std.proofs.Common.{◌≡◌, ℕ, zero, suc, ◌+◌, ◌*◌, ◌%◌, ◌<◌, ◌≤◌, ◌==◌, ◌&&◌, Bool, true, false, List, [], ◌∷◌, ◌++◌, Option, Some, None, refl, sym, subst, inl, inr, arith}
 use Rattle.std.proofs.lemmas.List.{append-nil}
 use Rattle.std.proofs.lemmas.Bool.{cases_eq}
-use Rattle.t1s_waveform.specs.Dumps.{Scope, EachOnce, IsAmong, codes_of_wires, declared_codes}
-use Rattle.t1s_waveform.specs.Wires.{code, drive_changes, fall_changes, scope_of, start_changes, wires_of}
-use Rattle.t1s_waveform.proofs.Dumps.{Goes, RisesTo, among_left, among_right, declared_codes-append, rises-append, rises_once}
+use Rattle.std.specs.Str.{bytes_eq}
+use Rattle.t1s_waveform.specs.Dumps.{Scope, Wire, EachOnce, HasWire, codes_of_wires, declared_codes, declared_wires}
+use Rattle.t1s_waveform.specs.Wires.{code, drive_changes, fall_changes, heard_bits, heard_code, heard_scope, scope_of, start_changes, wires_of}
+use Rattle.t1s_waveform.specs.declared.heard.Heard.{Heard}
+use Rattle.t1s_waveform.specs.declared.heard.Heard.TheVariants.{Silence, Beacon, Run, Bare, Torn, Blur}
+use Rattle.t1s_waveform.proofs.Dumps.{Goes, RisesTo, declared_codes-append, declared_wires-append, rises-append, rises_once, wire_left, wire_right}
 
 -- the codes of a node
 abbrev pub node_codes : ℕ → List (List ℕ)
@@ -32,58 +35,111 @@ first_rise (suc count) few =
     subst (λ (cs : List (List ℕ)). RisesTo 0 cs (256 * (65 + suc count))) (sym (codes_of_first count))
     (rises-append 0 (declared_codes (first_scopes count)) (node_codes count) (256 * (65 + count)) (256 * (65 + suc count)) (first_rise count (omega arith)) (node_rises count (omega arith)))
 
-pub each_once : (count : ℕ) → count ≤ 32 → EachOnce (declared_codes (first_scopes count))
-each_once count few = rises_once 0 (declared_codes (first_scopes count)) (256 * (65 + count)) (first_rise count few)
+-- the wire of what a node hears, where there is one
+abbrev pub heard_scopes : Option ℕ → List Scope
+heard_scopes None = []
+heard_scopes (Some node) = heard_scope node ∷ []
 
--- ---- the codes of changes
+heard_rises : (heard : Option ℕ) (m : ℕ) → m ≤ 256 * 97 → RisesTo m (declared_codes (heard_scopes heard)) (256 * 98)
+heard_rises None m low = omega arith
+heard_rises (Some node) m low = (omega arith, omega arith)
 
-pub among_first : (count node : ℕ) (c : List ℕ) → node < count → IsAmong (node_codes node) c → IsAmong (declared_codes (first_scopes count)) c
-among_first zero node c below h = absurd (omega arith)
-among_first (suc count) node c below h =
-    subst (λ (cs : List (List ℕ)). IsAmong cs c) (sym (codes_of_first count)) (elim (cases_eq node count) [
-      | inl e ↦ among_right (declared_codes (first_scopes count)) (node_codes count) c (subst (λ (n : ℕ). IsAmong (node_codes n) c) e h)
-      | inr n ↦ among_left (declared_codes (first_scopes count)) (node_codes count) c (among_first count node c (omega arith) h)
+pub each_once : (count : ℕ) (heard : Option ℕ) → count ≤ 32 → EachOnce (declared_codes (first_scopes count ++ heard_scopes heard))
+each_once count heard few =
+    subst EachOnce (sym (declared_codes-append (first_scopes count) (heard_scopes heard)))
+    (rises_once 0 (declared_codes (first_scopes count) ++ declared_codes (heard_scopes heard)) (256 * 98)
+    (rises-append 0 (declared_codes (first_scopes count)) (declared_codes (heard_scopes heard)) (256 * (65 + count)) (256 * 98) (first_rise count few) (heard_rises heard (256 * (65 + count)) (omega arith))))
+
+-- ---- the wires of changes
+
+-- the wires of the first nodes
+abbrev pub first_wires : ℕ → List Wire
+first_wires count = declared_wires (first_scopes count)
+
+pub wire_first : (count node : ℕ) (c : List ℕ) (bits : ℕ) → node < count → HasWire (wires_of node) c bits → HasWire (first_wires count) c bits
+wire_first zero node c bits below h = absurd (omega arith)
+wire_first (suc count) node c bits below h =
+    subst (λ (ws : List Wire). HasWire ws c bits) (sym wires_of_first) (elim (cases_eq node count) [
+      | inl e ↦ wire_right (first_wires count) (wires_of count) c bits (subst (λ (n : ℕ). HasWire (wires_of n) c bits) e h)
+      | inr n ↦ wire_left (first_wires count) (wires_of count) c bits (wire_first count node c bits (omega arith) h)
     ])
+  where
+    wires_of_first : first_wires (suc count) ≡ first_wires count ++ wires_of count
+    wires_of_first =
+        subst (λ (ws : List Wire). first_wires (suc count) ≡ first_wires count ++ ws) (append-nil (wires_of count)) (declared_wires-append (first_scopes count) (scope_of count ∷ []))
+
+-- those of the first nodes, and that of what one hears
+pub wire_of_first : (count : ℕ) (heard : Option ℕ) (c : List ℕ) (bits : ℕ) → HasWire (first_wires count) c bits → HasWire (declared_wires (first_scopes count ++ heard_scopes heard)) c bits
+wire_of_first count heard c bits h =
+    subst (λ (ws : List Wire). HasWire ws c bits) (sym (declared_wires-append (first_scopes count) (heard_scopes heard)))
+    (wire_left (first_wires count) (declared_wires (heard_scopes heard)) c bits h)
+
+pub wire_of_heard : (count node : ℕ) → HasWire (declared_wires (first_scopes count ++ heard_scopes (Some node))) heard_code 3
+wire_of_heard count node =
+    subst (λ (ws : List Wire). HasWire ws heard_code 3) (sym (declared_wires-append (first_scopes count) (heard_scopes (Some node))))
+    (wire_right (first_wires count) (declared_wires (heard_scopes (Some node))) heard_code 3 (inl (refl, refl)))
+
+pub three_bits : (what : Heard) → Rattle.std.proofs.Common.length (heard_bits what) ≡ 3
+three_bits Silence = refl
+three_bits Beacon = refl
+three_bits Run = refl
+three_bits Bare = refl
+three_bits Torn = refl
+three_bits Blur = refl
 
 module _ (node : ℕ) where
-  drives_among : IsAmong (node_codes node) (code node 97)
-  drives_among = inl refl
+  has_drives : HasWire (wires_of node) (code node 97) 1
+  has_drives = inl (refl, refl)
 
-  beacon_among : IsAmong (node_codes node) (code node 98)
-  beacon_among = inr (inl refl)
+  has_beacon : HasWire (wires_of node) (code node 98) 1
+  has_beacon = inr (inl (refl, refl))
 
-  commit_among : IsAmong (node_codes node) (code node 99)
-  commit_among = inr (inr (inl refl))
+  has_commit : HasWire (wires_of node) (code node 99) 1
+  has_commit = inr (inr (inl (refl, refl)))
 
-  frame_among : IsAmong (node_codes node) (code node 100)
-  frame_among = inr (inr (inr (inl refl)))
+  has_frame : HasWire (wires_of node) (code node 100) 1
+  has_frame = inr (inr (inr (inl (refl, refl))))
 
-  pub status_among : IsAmong (node_codes node) (code node 101)
-  status_among = inr (inr (inr (inr (inl refl))))
+  pub has_status : HasWire (wires_of node) (code node 101) 1
+  has_status = inr (inr (inr (inr (inl (refl, refl)))))
 
-  pub taken_among : IsAmong (node_codes node) (code node 102)
-  taken_among = inr (inr (inr (inr (inr (inl refl)))))
+  pub has_taken : HasWire (wires_of node) (code node 102) 1
+  has_taken = inr (inr (inr (inr (inr (inl (refl, refl))))))
 
-  pub refused_among : IsAmong (node_codes node) (code node 103)
-  refused_among = inr (inr (inr (inr (inr (inr (inl refl))))))
+  pub has_refused : HasWire (wires_of node) (code node 103) 1
+  has_refused = inr (inr (inr (inr (inr (inr (inl (refl, refl)))))))
 
-  pub good_among : IsAmong (node_codes node) (code node 104)
-  good_among = inr (inr (inr (inr (inr (inr (inr (inl refl)))))))
+  pub has_good : HasWire (wires_of node) (code node 104) 1
+  has_good = inr (inr (inr (inr (inr (inr (inr (inl (refl, refl))))))))
 
-  pub bad_among : IsAmong (node_codes node) (code node 105)
-  bad_among = inr (inr (inr (inr (inr (inr (inr (inr (inl refl))))))))
+  pub has_bad : HasWire (wires_of node) (code node 105) 1
+  has_bad = inr (inr (inr (inr (inr (inr (inr (inr (inl (refl, refl)))))))))
 
-  pub jam_among : IsAmong (node_codes node) (code node 106)
-  jam_among = inr (inr (inr (inr (inr (inr (inr (inr (inr (inl refl)))))))))
+  pub has_jam : HasWire (wires_of node) (code node 106) 1
+  has_jam = inr (inr (inr (inr (inr (inr (inr (inr (inr (inl (refl, refl))))))))))
 
-  pub drop_among : IsAmong (node_codes node) (code node 107)
-  drop_among = inr (inr (inr (inr (inr (inr (inr (inr (inr (inr (inl refl))))))))))
+  pub has_drop : HasWire (wires_of node) (code node 107) 1
+  has_drop = inr (inr (inr (inr (inr (inr (inr (inr (inr (inr (inl (refl, refl)))))))))))
 
-  pub drive_goes : (beacon commit frame : Bool) (t : ℕ) → Goes (node_codes node) t (drive_changes node beacon commit frame) t
-  drive_goes beacon commit frame t = (drives_among, (beacon_among, (commit_among, (frame_among, refl))))
+  pub drive_goes : (beacon commit frame : Bool) (t : ℕ) → Goes (wires_of node) t (drive_changes node beacon commit frame) t
+  drive_goes beacon commit frame t = (has_drives, (has_beacon, (has_commit, (has_frame, refl))))
 
-  pub falls_go : (t : ℕ) → Goes (node_codes node) t (fall_changes node) t
-  falls_go t = (taken_among, (refused_among, (good_among, (bad_among, (jam_among, (drop_among, refl))))))
+  pub falls_go : (t : ℕ) → Goes (wires_of node) t (fall_changes node) t
+  falls_go t = (has_taken, (has_refused, (has_good, (has_bad, (has_jam, (has_drop, refl))))))
 
-  pub start_goes : (t : ℕ) → Goes (node_codes node) t (start_changes node) t
-  start_goes t = (drives_among, (beacon_among, (commit_among, (frame_among, (status_among, falls_go t)))))
+  pub start_goes : (t : ℕ) → Goes (wires_of node) t (start_changes node) t
+  start_goes t = (has_drives, (has_beacon, (has_commit, (has_frame, (has_status, falls_go t)))))
+
+-- ---- values
+
+-- the codes of two wires of nodes that have other letters
+pub other_letter : (n m : ℕ) (a b : ℕ) → (a == b) ≡ false → bytes_eq (code n a) (code m b) ≡ false
+other_letter n m a b other = rw other (go (65 + n % 32 == 65 + m % 32))
+  where
+    go : (x : Bool) → (x && false) ≡ false
+    go true = refl
+    go false = refl
+
+-- a wire of a node, and that of what a node hears
+pub other_heard : (n a : ℕ) → bytes_eq (code n a) heard_code ≡ false
+other_heard n a = let other : (65 + n % 32 == 97) ≡ false = grind arith in rw other refl

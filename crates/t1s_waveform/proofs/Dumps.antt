@@ -1,6 +1,9 @@
 -- Lemmas on the items and the codes of dumps.
-use Rattle.std.proofs.Common.{◌≡◌, ℕ, ◌+◌, ◌*◌, ◌<◌, ◌≤◌, List, [], ◌∷◌, ◌++◌, refl, sym, ap, subst, ◌∙◌, inl, inr, arith, append_assoc}
-use Rattle.t1s_waveform.specs.Dumps.{Item, Time, Change, Scope, Ascend, EachOnce, HaveCodes, IsAmong, codes_of_wires, declared_codes, item_text, items_text, scope_text, scopes_text}
+use Rattle.std.proofs.Common.{◌≡◌, ℕ, ◌+◌, ◌*◌, ◌<◌, ◌≤◌, ◌&&◌, Bool, true, false, nat_le, List, [], ◌∷◌, ◌++◌, length, refl, sym, ap, subst, ◌∙◌, inl, inr, arith, append_assoc}
+use Rattle.t1s_waveform.specs.Dumps.{Item, Time, Change, Vector, Scope, Wire, Ascend, EachOnce, HasWire, HaveWires, IsAmong, codes_of_wires, declared_codes, declared_wires, item_text, items_text, scope_text, scopes_text}
+use Rattle.std.specs.Prelude.{if◌then◌else◌}
+use Rattle.std.specs.Str.{bytes_eq}
+use Rattle.t1s_waveform.specs.Values.{changed, value_from}
 
 -- ---- texts of lists
 
@@ -17,16 +20,21 @@ declared_codes-append [] b = refl
 declared_codes-append (scope ∷ a) b =
     ap (λ (cs : List (List ℕ)). codes_of_wires scope.wires ++ cs) (declared_codes-append a b) ∙ sym (append_assoc (codes_of_wires scope.wires) (declared_codes a) (declared_codes b))
 
+pub declared_wires-append : (a b : List Scope) → declared_wires (a ++ b) ≡ declared_wires a ++ declared_wires b
+declared_wires-append [] b = refl
+declared_wires-append (scope ∷ a) b =
+    ap (λ (ws : List Wire). scope.wires ++ ws) (declared_wires-append a b) ∙ sym (append_assoc scope.wires (declared_wires a) (declared_wires b))
+
 -- ---- codes
 
-pub among_left : (a b : List (List ℕ)) (c : List ℕ) → IsAmong a c → IsAmong (a ++ b) c
-among_left [] b c h = absurd h
-among_left (x ∷ a) b c (inl e) = inl e
-among_left (x ∷ a) b c (inr h) = inr (among_left a b c h)
+pub wire_left : (a b : List Wire) (c : List ℕ) (bits : ℕ) → HasWire a c bits → HasWire (a ++ b) c bits
+wire_left [] b c bits h = absurd h
+wire_left (x ∷ a) b c bits (inl e) = inl e
+wire_left (x ∷ a) b c bits (inr h) = inr (wire_left a b c bits h)
 
-pub among_right : (a b : List (List ℕ)) (c : List ℕ) → IsAmong b c → IsAmong (a ++ b) c
-among_right [] b c h = h
-among_right (x ∷ a) b c h = inr (among_right a b c h)
+pub wire_right : (a b : List Wire) (c : List ℕ) (bits : ℕ) → HasWire b c bits → HasWire (a ++ b) c bits
+wire_right [] b c bits h = h
+wire_right (x ∷ a) b c bits h = inr (wire_right a b c bits h)
 
 -- a code of two octets as a number
 abbrev pub weight : List ℕ → ℕ
@@ -58,29 +66,53 @@ rises_once m (c ∷ cs) k (first, rest) = (λ among. absurd (let above = rises_a
 
 -- ---- times
 
--- the items lead from the one time to the other, and have these codes
-abbrev pub Goes : List (List ℕ) → ℕ → List Item → ℕ → Type 0
-Goes cs t [] u = t ≡ u
-Goes cs t (Time s ∷ items) u = (t < s) × Goes cs s items u
-Goes cs t (Change value code ∷ items) u = IsAmong cs code × Goes cs t items u
+-- the items lead from the one time to the other, and are of these wires
+abbrev pub Goes : List Wire → ℕ → List Item → ℕ → Type 0
+Goes ws t [] u = t ≡ u
+Goes ws t (Time s ∷ items) u = (t < s) × Goes ws s items u
+Goes ws t (Change value code ∷ items) u = HasWire ws code 1 × Goes ws t items u
+Goes ws t (Vector values code ∷ items) u = HasWire ws code (length values) × Goes ws t items u
 
-pub goes-append : (cs : List (List ℕ)) (t : ℕ) (a b : List Item) (u v : ℕ) → Goes cs t a u → Goes cs u b v → Goes cs t (a ++ b) v
-goes-append cs t [] b u v h more = subst (λ (s : ℕ). Goes cs s b v) (sym h) more
-goes-append cs t (Time s ∷ a) b u v (later, rest) more = (later, goes-append cs s a b u v rest more)
-goes-append cs t (Change value code ∷ a) b u v (among, rest) more = (among, goes-append cs t a b u v rest more)
+pub goes-append : (ws : List Wire) (t : ℕ) (a b : List Item) (u v : ℕ) → Goes ws t a u → Goes ws u b v → Goes ws t (a ++ b) v
+goes-append ws t [] b u v h more = subst (λ (s : ℕ). Goes ws s b v) (sym h) more
+goes-append ws t (Time s ∷ a) b u v (later, rest) more = (later, goes-append ws s a b u v rest more)
+goes-append ws t (Change value code ∷ a) b u v (has, rest) more = (has, goes-append ws t a b u v rest more)
+goes-append ws t (Vector values code ∷ a) b u v (has, rest) more = (has, goes-append ws t a b u v rest more)
 
--- with more codes
-pub goes_among : (cs ds : List (List ℕ)) → ((c : List ℕ) → IsAmong cs c → IsAmong ds c) → (t : ℕ) (items : List Item) (u : ℕ) → Goes cs t items u → Goes ds t items u
-goes_among cs ds more t [] u h = h
-goes_among cs ds more t (Time s ∷ items) u (later, rest) = (later, goes_among cs ds more s items u rest)
-goes_among cs ds more t (Change value code ∷ items) u (among, rest) = (more code among, goes_among cs ds more t items u rest)
+-- with more wires
+pub goes_among : (ws xs : List Wire) → ((c : List ℕ) (bits : ℕ) → HasWire ws c bits → HasWire xs c bits) → (t : ℕ) (items : List Item) (u : ℕ) → Goes ws t items u → Goes xs t items u
+goes_among ws xs more t [] u h = h
+goes_among ws xs more t (Time s ∷ items) u (later, rest) = (later, goes_among ws xs more s items u rest)
+goes_among ws xs more t (Change value code ∷ items) u (has, rest) = (more code 1 has, goes_among ws xs more t items u rest)
+goes_among ws xs more t (Vector values code ∷ items) u (has, rest) = (more code (length values) has, goes_among ws xs more t items u rest)
 
-pub goes_ascend : (cs : List (List ℕ)) (t : ℕ) (items : List Item) (u : ℕ) → Goes cs t items u → Ascend t items
-goes_ascend cs t [] u h = tt
-goes_ascend cs t (Time s ∷ items) u (later, rest) = (later, goes_ascend cs s items u rest)
-goes_ascend cs t (Change value code ∷ items) u (among, rest) = goes_ascend cs t items u rest
+pub goes_ascend : (ws : List Wire) (t : ℕ) (items : List Item) (u : ℕ) → Goes ws t items u → Ascend t items
+goes_ascend ws t [] u h = tt
+goes_ascend ws t (Time s ∷ items) u (later, rest) = (later, goes_ascend ws s items u rest)
+goes_ascend ws t (Change value code ∷ items) u (has, rest) = goes_ascend ws t items u rest
+goes_ascend ws t (Vector values code ∷ items) u (has, rest) = goes_ascend ws t items u rest
 
-pub goes_codes : (cs : List (List ℕ)) (t : ℕ) (items : List Item) (u : ℕ) → Goes cs t items u → HaveCodes cs items
-goes_codes cs t [] u h = tt
-goes_codes cs t (Time s ∷ items) u (later, rest) = goes_codes cs s items u rest
-goes_codes cs t (Change value code ∷ items) u (among, rest) = (among, goes_codes cs t items u rest)
+pub goes_wires : (ws : List Wire) (t : ℕ) (items : List Item) (u : ℕ) → Goes ws t items u → HaveWires ws items
+goes_wires ws t [] u h = tt
+goes_wires ws t (Time s ∷ items) u (later, rest) = goes_wires ws s items u rest
+goes_wires ws t (Change value code ∷ items) u (has, rest) = (has, goes_wires ws t items u rest)
+goes_wires ws t (Vector values code ∷ items) u (has, rest) = (has, goes_wires ws t items u rest)
+
+-- ---- values
+
+-- of items, and then others
+pub value-append : (ws : List Wire) (c : List ℕ) (tick t : ℕ) (value : List Bool) (a b : List Item) (u : ℕ) → Goes ws t a u →
+    value_from c tick t value (a ++ b) ≡ value_from c tick u (value_from c tick t value a) b
+value-append ws c tick t value [] b u h = ap (λ (s : ℕ). value_from c tick s value b) h
+value-append ws c tick t value (Time s ∷ a) b u (later, rest) = value-append ws c tick s value a b u rest
+value-append ws c tick t value (Change x d ∷ a) b u (has, rest) = value-append ws c tick t (changed c tick t d (x ∷ []) value) a b u rest
+value-append ws c tick t value (Vector xs d ∷ a) b u (has, rest) = value-append ws c tick t (changed c tick t d xs value) a b u rest
+
+-- a change of another wire
+pub changed_other : (code : List ℕ) (tick now : ℕ) (c : List ℕ) (value before : List Bool) → bytes_eq c code ≡ false → changed code tick now c value before ≡ before
+changed_other code tick now c value before other = go (nat_le now tick) (bytes_eq c code) other
+  where
+    go : (a b : Bool) → b ≡ false → (if a && b then value else before) ≡ before
+    go true false e = refl
+    go false b e = refl
+    go true true e = absurd cc

@@ -1,25 +1,28 @@
--- Value change dumps with wires of one bit (VCD, IEEE Std 1364).
-use Rattle.std.specs.Prelude.{◌≡◌, ◌⊎◌, ℕ, ◌<◌, Bool, List, [], ◌∷◌, ◌++◌, codes, decimal, if◌then◌else◌}
+-- Value change dumps (VCD, IEEE Std 1364).
+use Rattle.std.specs.Prelude.{◌≡◌, ◌⊎◌, ℕ, ◌<◌, Bool, List, [], ◌∷◌, ◌++◌, length, map, codes, decimal, if◌then◌else◌}
 
--- a wire: its identifier code and its name
+-- a wire: its identifier code, its name, and how many bits it has
 pub record Wire : Type 0 where
   pub code : List ℕ
   pub name : List ℕ
+  pub bits : ℕ
 
 -- the wires that are declared together
 pub record Scope : Type 0 where
   pub name : List ℕ
   pub wires : List Wire
 
--- what stands after the declarations: a time, or the value that the wire of a code has from that time on
+-- what stands after the declarations: a time, or the value that the wire of a code has from that time on: of a wire of one bit
+-- this bit, of another one its bits, the high one first
 pub data Item : Type 0 where
   Time : ℕ → Item
   Change : Bool → List ℕ → Item
+  Vector : List Bool → List ℕ → Item
 
 -- ---- the text
 
 abbrev pub wire_text : Wire → List ℕ
-wire_text wire = codes "$var wire 1 " ++ (wire.code ++ (codes " " ++ (wire.name ++ codes " $end\n")))
+wire_text wire = codes "$var wire " ++ (decimal wire.bits ++ (codes " " ++ (wire.code ++ (codes " " ++ (wire.name ++ codes " $end\n")))))
 
 abbrev pub wires_text : List Wire → List ℕ
 wires_text [] = []
@@ -41,6 +44,7 @@ time_text tick = codes "#" ++ (decimal tick ++ codes "\n")
 abbrev pub item_text : Item → List ℕ
 item_text (Time tick) = time_text tick
 item_text (Change value code) = digit_of value ∷ (code ++ codes "\n")
+item_text (Vector values code) = codes "b" ++ (map digit_of values ++ (codes " " ++ (code ++ codes "\n")))
 
 abbrev pub items_text : List Item → List ℕ
 items_text [] = []
@@ -57,6 +61,11 @@ abbrev pub declared_codes : List Scope → List (List ℕ)
 declared_codes [] = []
 declared_codes (scope ∷ scopes) = codes_of_wires scope.wires ++ declared_codes scopes
 
+-- the wires that are declared
+abbrev pub declared_wires : List Scope → List Wire
+declared_wires [] = []
+declared_wires (scope ∷ scopes) = scope.wires ++ declared_wires scopes
+
 abbrev pub IsAmong : List (List ℕ) → List ℕ → Type 0
 IsAmong [] code = ⊥
 IsAmong (c ∷ cs) code = (c ≡ code) ⊎ IsAmong cs code
@@ -71,19 +80,26 @@ abbrev pub Ascend : ℕ → List Item → Type 0
 Ascend before [] = Unit {0}
 Ascend before (Time tick ∷ items) = (before < tick) × Ascend tick items
 Ascend before (Change value code ∷ items) = Ascend before items
+Ascend before (Vector values code ∷ items) = Ascend before items
 
--- the codes of the changes are among these
-abbrev pub HaveCodes : List (List ℕ) → List Item → Type 0
-HaveCodes cs [] = Unit {0}
-HaveCodes cs (Time tick ∷ items) = HaveCodes cs items
-HaveCodes cs (Change value code ∷ items) = IsAmong cs code × HaveCodes cs items
+-- one of these wires has that code and so many bits
+abbrev pub HasWire : List Wire → List ℕ → ℕ → Type 0
+HasWire [] code bits = ⊥
+HasWire (wire ∷ wires) code bits = ((wire.code ≡ code) × (wire.bits ≡ bits)) ⊎ HasWire wires code bits
+
+-- each change is of one of these wires, and has as many bits as it
+abbrev pub HaveWires : List Wire → List Item → Type 0
+HaveWires ws [] = Unit {0}
+HaveWires ws (Time tick ∷ items) = HaveWires ws items
+HaveWires ws (Change value code ∷ items) = HasWire ws code 1 × HaveWires ws items
+HaveWires ws (Vector values code ∷ items) = HasWire ws code (length values) × HaveWires ws items
 
 -- The text is a dump with a time unit of 100 ns: declarations, in which no code stands twice, then times that ascend from 0 on,
--- and after each the changes of its wires, which are declared.
+-- and after each the changes of its wires, which are declared and have as many bits.
 pub record IsDump (text : List ℕ) : Type 0 where
   pub scopes : List Scope
   pub items : List Item
   pub once : EachOnce (declared_codes scopes)
   pub ascend : Ascend 0 items
-  pub have_codes : HaveCodes (declared_codes scopes) items
+  pub have_wires : HaveWires (declared_wires scopes) items
   pub is : text ≡ codes "$timescale 100 ns $end\n" ++ (scopes_text scopes ++ (codes "$enddefinitions $end\n" ++ items_text (Time 0 ∷ items)))

@@ -1,4 +1,6 @@
-use crate::{put_change, put_drive, put_falls, put_start, put_time};
+use crate::{
+    Heard, put_change, put_drive, put_falls, put_heard, put_heard_scope, put_start, put_time,
+};
 use std::test::Fail;
 use t1s_base::Line;
 
@@ -17,5 +19,13 @@ fn each_line_is_as_written_by_hand(rt: HostRuntime) -> Result<(), Fail> {
     let mut time = Line::new();
     put_time(&mut time, 8256);
     assert_eq!(rt; time.as_slice() == b"#8256\n".as_slice(), true);
+    let mut heard = Line::new();
+    put_heard(&mut heard, Heard::Run);
+    put_heard(&mut heard, Heard::Torn);
+    assert_eq!(rt; heard.as_slice() == b"b010 aa\nb100 aa\n".as_slice(), true);
+    put_heard_scope(&mut heard, 12);
+    let wanted =
+        b"$scope module capture_12 $end\n$var wire 3 aa hears_12 $end\n$upscope $end\n".as_slice();
+    assert_eq!(rt; heard.as_slice() == wanted, true);
     Ok(())
 }

@@ -1,7 +1,7 @@
 // The wires of a node, and their changes.
 ghost use Rattle.std.specs.Prelude.{◌≡◌, ◌+◌, ◌%◌, ◌≤◌, ◌++◌, length};
 ghost use Rattle.t1s_waveform.specs.Dumps.{Change, digit_of, item_text, items_text, scope_text, time_text, wire_text};
-ghost use Rattle.t1s_waveform.specs.Wires.{code, drive_changes, fall_changes, scope_of, start_changes, wire_of};
+ghost use Rattle.t1s_waveform.specs.Wires.{code, drive_changes, fall_changes, named, scope_of, start_changes, wire_of};
 
 use crate::texts::{number, text};
 use t1s_base::Line;
@@ -93,19 +93,32 @@ pub fn put_time(out: &mut Line, tick: u64)
 }
 
 /// Appends the declaration of a wire. The number of the node ends its name, since not every reader looks at the scope.
-fn put_wire(out: &mut Line, node: u32, letter: u8, name: &[u8])
+pub(crate) fn put_wire(out: &mut Line, code: &[u8], name: &[u8], node: u32, bits: u64)
     requires room { length out.old ≤ 3900 }
+    requires code { length code.now ≤ 2 }
     requires name { length name.now ≤ 20 }
-    ensures value { out.new ≡ out.old ++ wire_text (wire_of node letter name.now) }
-    ensures len { length out.new ≤ length out.old + 70 }
+    ensures value { out.new ≡ out.old ++ wire_text (named code.now name.now node bits) }
+    ensures len { length out.new ≤ length out.old + 90 }
 {
-    text(out, b"$var wire 1 ");
-    text(out, &[letter_of(node), letter]);
+    text(out, b"$var wire ");
+    number(out, bits);
+    text(out, b" ");
+    text(out, code);
     text(out, b" ");
     text(out, name);
     text(out, b"_");
     number(out, u64::from(node));
     text(out, b" $end\n");
+}
+
+/// Appends the declaration of the wire of a node that has this letter.
+fn put_own_wire(out: &mut Line, node: u32, letter: u8, name: &[u8])
+    requires room { length out.old ≤ 3900 }
+    requires name { length name.now ≤ 20 }
+    ensures value { out.new ≡ out.old ++ wire_text (wire_of node letter name.now) }
+    ensures len { length out.new ≤ length out.old + 90 }
+{
+    put_wire(out, &[letter_of(node), letter], name, node, 1);
 }
 
 /// The declarations of the wires of a node.
@@ -116,16 +129,16 @@ pub fn put_scope(out: &mut Line, node: u32)
     text(out, b"$scope module node_");
     number(out, u64::from(node));
     text(out, b" $end\n");
-    put_wire(out, node, b'a', b"drives");
-    put_wire(out, node, b'b', b"beacon");
-    put_wire(out, node, b'c', b"commit");
-    put_wire(out, node, b'd', b"frame");
-    put_wire(out, node, b'e', b"status");
-    put_wire(out, node, b'f', b"taken");
-    put_wire(out, node, b'g', b"refused");
-    put_wire(out, node, b'h', b"good");
-    put_wire(out, node, b'i', b"bad");
-    put_wire(out, node, b'j', b"jam");
-    put_wire(out, node, b'k', b"drop");
+    put_own_wire(out, node, b'a', b"drives");
+    put_own_wire(out, node, b'b', b"beacon");
+    put_own_wire(out, node, b'c', b"commit");
+    put_own_wire(out, node, b'd', b"frame");
+    put_own_wire(out, node, b'e', b"status");
+    put_own_wire(out, node, b'f', b"taken");
+    put_own_wire(out, node, b'g', b"refused");
+    put_own_wire(out, node, b'h', b"good");
+    put_own_wire(out, node, b'i', b"bad");
+    put_own_wire(out, node, b'j', b"jam");
+    put_own_wire(out, node, b'k', b"drop");
     text(out, b"$upscope $end\n");
 }

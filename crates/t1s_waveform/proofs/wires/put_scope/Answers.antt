@@ -10,7 +10,7 @@ parts a b c w1 w2 w3 w4 w5 w6 w7 w8 w9 w10 w11 up = simp append_assoc refl
 
 pub returns : goal.returns
 returns c =
-    rw (c.text-3.ensures.value, c.put_wire-11.ensures.value, c.put_wire-10.ensures.value, c.put_wire-9.ensures.value, c.put_wire-8.ensures.value, c.put_wire-7.ensures.value, c.put_wire-6.ensures.value, c.put_wire-5.ensures.value, c.put_wire-4.ensures.value, c.put_wire-3.ensures.value, c.put_wire-2.ensures.value, c.put_wire.ensures.value, c.text-2.ensures.value, c.number.ensures.value, c.from.ensures, c.text.ensures.value, c.clear.ensures)
+    rw (c.text-3.ensures.value, c.put_own_wire-11.ensures.value, c.put_own_wire-10.ensures.value, c.put_own_wire-9.ensures.value, c.put_own_wire-8.ensures.value, c.put_own_wire-7.ensures.value, c.put_own_wire-6.ensures.value, c.put_own_wire-5.ensures.value, c.put_own_wire-4.ensures.value, c.put_own_wire-3.ensures.value, c.put_own_wire-2.ensures.value, c.put_own_wire.ensures.value, c.text-2.ensures.value, c.number.ensures.value, c.from.ensures, c.text.ensures.value, c.clear.ensures)
     (parts (codes "$scope module node_") (decimal c.args.node) (codes " $end\n")
     (wire_text (wire_of c.args.node 97 (codes "drives")))
     (wire_text (wire_of c.args.node 98 (codes "beacon")))

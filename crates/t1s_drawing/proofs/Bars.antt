@@ -69,7 +69,7 @@ last_complete w p (suc count) s node low e =
 
 -- ---- what is driven after an event
 
-lane_low : (w : Window) (node : ℕ) → is_lane w node ≡ true → (node < w.nodes) × (node < 32)
+pub lane_low : (w : Window) (node : ℕ) → is_lane w node ≡ true → (node < w.nodes) × (node < 32)
 lane_low w node h = (grind arith, grind arith)
 
 driven_same : (p : Progress) (e : Event) (node : ℕ) → (e.node ≡ node → turn_of e.what ≡ None) → drive_at (after_event p e) node ≡ drive_at p node
@@ -91,7 +91,7 @@ lanes_kept p e h = go (turn_of e.what)
 
 -- ---- events before others
 
-goes_on_before : (w : Window) (e : Event) (events : List Event) (node stop : ℕ) → (e.node ≡ node → turn_of e.what ≡ None) → GoesOnTo w events node stop → GoesOnTo w (e ∷ events) node stop
+pub goes_on_before : (w : Window) (e : Event) (events : List Event) (node stop : ℕ) → (e.node ≡ node → turn_of e.what ≡ None) → GoesOnTo w events node stop → GoesOnTo w (e ∷ events) node stop
 goes_on_before w e events node stop stays (inl h) = inl (record {
   between = e ∷ h.between;
   last = h.last;
@@ -104,14 +104,14 @@ goes_on_before w e events node stop stays (inl h) = inl (record {
 })
 goes_on_before w e events node stop stays (inr h) = inr ((stays, h.0), h.1)
 
-head_is : {a b : Event} {xs ys : List Event} → a ∷ xs ≡ b ∷ ys → a ≡ b
+pub head_is : {a b : Event} {xs ys : List Event} → a ∷ xs ≡ b ∷ ys → a ≡ b
 head_is e = cc
 
-tail_is : {a b : Event} {xs ys : List Event} → a ∷ xs ≡ b ∷ ys → xs ≡ ys
+pub tail_is : {a b : Event} {xs ys : List Event} → a ∷ xs ≡ b ∷ ys → xs ≡ ys
 tail_is e = cc
 
 -- what goes on past an event that doesn't tell otherwise
-goes_on_after : (w : Window) (e : Event) (events : List Event) (node stop : ℕ) → (e.node ≡ node → turn_of e.what ≡ None) → GoesOnTo w (e ∷ events) node stop → GoesOnTo w events node stop
+pub goes_on_after : (w : Window) (e : Event) (events : List Event) (node stop : ℕ) → (e.node ≡ node → turn_of e.what ≡ None) → GoesOnTo w (e ∷ events) node stop → GoesOnTo w events node stop
 goes_on_after w e events node stop stays (inr h) = inr (h.0.1, h.1)
 goes_on_after w e events node stop stays (inl h) = go h.between h.events_are h.stays
   where
@@ -131,7 +131,7 @@ goes_on_after w e events node stop stays (inl h) = go h.between h.events_are h.s
     })
 
 -- what an event ends, ends there
-ends_here : (w : Window) (e : Event) (events : List Event) (node stop : ℕ) (part : Option Part) → e.node ≡ node → turn_of e.what ≡ Some part → GoesOnTo w (e ∷ events) node stop → e.tick ≡ stop
+pub ends_here : (w : Window) (e : Event) (events : List Event) (node stop : ℕ) (part : Option Part) → e.node ≡ node → turn_of e.what ≡ Some part → GoesOnTo w (e ∷ events) node stop → e.tick ≡ stop
 ends_here w e events node stop part at is (inr h) = absurd (let z = sym (h.0.0 at) ∙ is in cc)
 ends_here w e events node stop part at is (inl h) = go h.between h.events_are h.stays
   where
@@ -236,7 +236,7 @@ sound w (e ∷ events) p shape lanes at h =
         by_turn None is = unturned o (λ same. is)
         by_turn (Some part) is = elim (cases_eq e.node o.node) [ inl same ↦ turned_at o part same is | inr other ↦ unturned o (λ same. absurd (other same)) ]
 
-no_events_end : (between : List Event) (last : Event) (rest : List Event) → [] ≡ between ++ last ∷ rest → ⊥
+pub no_events_end : (between : List Event) (last : Event) (rest : List Event) → [] ≡ between ++ last ∷ rest → ⊥
 no_events_end [] last rest e = cc
 no_events_end (b ∷ between) last rest e = cc
 

@@ -4,11 +4,11 @@ use Rattle.std.specs.Prelude.{if◌then◌else◌}
 use Rattle.std.specs.List.{list_all}
 use Rattle.t1s_drawing.specs.Lines.{fields_of, parts_of}
 use Rattle.t1s_drawing.specs.Pieces.{each_text, piece_text}
-use Rattle.t1s_drawing.specs.Picture.{head, head_text, height, picture_opening, shapes_text, width, with_grid, with_lanes}
+use Rattle.t1s_drawing.specs.Picture.{head, head_text, height, picture_opening, shapes_text, width, with_grid, with_lanes, with_paper}
 use Rattle.t1s_drawing.specs.Written.{Outcome, after, closing, closing_of, drawing_of, drawn, end_of, going_on, line_step, opening, opening_of, step_of, told_of, told_text}
 use Rattle.t1s_drawing.specs.Progress.{Stepped, at_start}
 use Rattle.t1s_drawing.specs.ReadLines.{is_plain, line_in, line_of}
-use Rattle.t1s_drawing.specs.ShapeTexts.{label_text}
+use Rattle.t1s_drawing.specs.ShapeTexts.{box_text, label_text}
 use Rattle.t1s_drawing.specs.Xml.{Attribute, IsContent, IsDocument, are_attributes, attributes_text, is_character}
 use Rattle.t1s_drawing.specs.declared.report.ReportLine.{ReportLine}
 use Rattle.t1s_drawing.specs.declared.progress.Progress.{Progress}
@@ -18,14 +18,14 @@ use Rattle.t1s_drawing.specs.declared.window.Form.TheVariants.{Picture}
 use Rattle.t1s_drawing.specs.declared.window.Window.{Window}
 use Rattle.t1s_drawing.specs.declared.writing.Piece.TheVariants.{Lanes, Grid, Legend, Ends}
 use Rattle.t1s_drawing.proofs.Contents.{content_characters, content_element, content_none, content_then, decimal_in_value}
-use Rattle.t1s_drawing.proofs.ShapeContents.{each_content, optional_content, words_content}
+use Rattle.t1s_drawing.proofs.ShapeContents.{box_content, each_content, optional_content, words_content}
 
 -- ---- the start of the element that holds all others
 
 abbrev svg_attributes : Window → List Attribute
 svg_attributes w =
     record { name = codes "xmlns"; value = codes "http://www.w3.org/2000/svg" } ∷ record { name = codes "width"; value = decimal (width w) } ∷ record { name = codes "height"; value = decimal (height w) }
-    ∷ record { name = codes "style"; value = codes "background:white" } ∷ []
+    ∷ []
 
 svg_formed : (w : Window) → are_attributes (svg_attributes w) ≡ true
 svg_formed w = rw (decimal_in_value (width w), decimal_in_value (height w)) refl
@@ -42,7 +42,7 @@ begun_then w a b (inner, c, is) d = (inner ++ b, content_then inner b c d, ap (�
 
 style : List ℕ
 style =
-    codes "text{font:11px sans-serif}.lane{fill:#f1f3f5}.grid{fill:#dde1e6}.cycle{fill:#9aa5b1}"
+    codes "text{font:11px sans-serif}.paper{fill:white}.lane{fill:#f1f3f5}.grid{fill:#dde1e6}.cycle{fill:#9aa5b1}"
     ++ codes ".beacon{fill:#3b6fb6}.commit{fill:#f2b134}.frame{fill:#4f9d69}.good{fill:#1b7340}.bad{fill:#c62828}"
     ++ codes ".number{fill:white}.taken{fill:#3b6fb6}.jam{fill:#c05a00}.ok{fill:#1b7340}.tick{fill:#666}"
 
@@ -66,12 +66,20 @@ label_after before class x y words = simp append_assoc refl
 note : List ℕ
 note = codes "ticks of 100 ns; +K is offer K, taken into the queue"
 
+box_after : (before class : List ℕ) (place size : ℕ × ℕ) → box_text before class place size ≡ before ++ box_text [] class place size
+box_after before class place size = simp append_assoc refl
+
+paper_begun : (w : Window) → Begun w (with_paper w)
+paper_begun w =
+    subst (Begun w) (sym (box_after (head w) (codes "paper") (0, 0) (width w, height w)))
+    (begun_then w (head w) (box_text [] (codes "paper") (0, 0) (width w, height w)) (head_begun w) (box_content [] (codes "paper") (0, 0) (width w, height w) content_none refl))
+
 opening_begun : (w : Window) → Begun w (picture_opening w)
 unfolding note
 opening_begun w =
     let labelled : Begun w (head_text w) =
-    subst (Begun w) (sym (label_after (head w) (codes "note") 70 14 note))
-    (begun_then w (head w) (label_text [] (codes "note") 70 14 note) (head_begun w) (words_content [] (codes "note") 70 14 note content_none refl refl)) in
+    subst (Begun w) (sym (label_after (with_paper w) (codes "note") 70 14 note))
+    (begun_then w (with_paper w) (label_text [] (codes "note") 70 14 note) (paper_begun w) (words_content [] (codes "note") 70 14 note content_none refl refl)) in
     begun_then w (with_grid w) (each_text (piece_text Legend w at_start) 5)
     (begun_then w (with_lanes w) (each_text (piece_text Grid w at_start) (w.until / 100 + 1)) (begun_then w (head_text w) (each_text (piece_text Lanes w at_start) w.nodes) labelled (each_content Lanes w at_start w.nodes (λ row. refl))) (each_content Grid w at_start (w.until / 100 + 1) (λ row. refl))) (each_content Legend w at_start 5 (λ row. refl))
 

@@ -11,3 +11,4 @@ pub mod Bars
 pub mod PictureBars
 pub mod DumpDocuments
 pub mod DumpWords
+pub mod DumpRuns

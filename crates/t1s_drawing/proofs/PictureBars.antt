@@ -6,7 +6,7 @@ use Rattle.t1s_drawing.specs.BarLaws.{HaveLanes, bars_from, last_bars}
 use Rattle.t1s_drawing.specs.Lines.{parts_of}
 use Rattle.t1s_drawing.specs.Written.{drawn, going_on, line_step, opening, drawing_of, step_of, told_text}
 use Rattle.t1s_drawing.specs.PictureBars.{PicturesHaveBars, bars_after, drawn_bars, event_of, events_of}
-use Rattle.t1s_drawing.specs.Progress.{Stepped, after_event, at_start, event_step, is_lane, step, told_bar}
+use Rattle.t1s_drawing.specs.Progress.{Stepped, after_event, at_start, event_step, has_wire, is_lane, step, told_bar}
 use Rattle.t1s_drawing.specs.ReadLines.{line_of}
 use Rattle.t1s_drawing.specs.declared.report.Event.{Event}
 use Rattle.t1s_drawing.specs.declared.report.ReportLine.{ReportLine}
@@ -36,10 +36,10 @@ same_bars w (event ∷ events) p q e =
 abbrev pub StaysAsIs : Progress → Progress → Told → Type 0
 StaysAsIs p q told = (told.bar ≡ None) × (q.driven ≡ p.driven) × (told.event ≡ None) × ((q.tick ≡ p.tick) × (q.pulses ≡ p.pulses))
 
--- Its event is at a node of the picture and not earlier, its bar is the one that the event ends, and what is driven is as after
--- the event.
+-- Its event is at a node of the picture and not earlier, and what the dump shows; its bar is the one that the event ends, and what
+-- is driven is as after the event.
 abbrev pub Takes : Window → Progress → Option ReportLine → Progress → Told → Type 0
-Takes w p (Some (EventLine event)) q told = (is_lane w event.node ≡ true) × (told.bar ≡ told_bar w p event) × (q ≡ after_event p event) × (nat_lt event.tick p.tick ≡ false) × (told.event ≡ Some event) × (told.before ≡ p)
+Takes w p (Some (EventLine event)) q told = (is_lane w event.node ≡ true) × (told.bar ≡ told_bar w p event) × (q ≡ after_event p event) × (nat_lt event.tick p.tick ≡ false) × (told.event ≡ Some event) × (told.before ≡ p) × (has_wire w event ≡ true)
 Takes w p (Some Settled) q told = StaysAsIs p q told
 Takes w p (Some (Totals node)) q told = StaysAsIs p q told
 Takes w p (Some Offer) q told = StaysAsIs p q told
@@ -55,18 +55,20 @@ or_false : (a b : Bool) → (a || b) ≡ false → b ≡ false
 or_false true b e = absurd cc
 or_false false b e = e
 
-event_taken : (w : Window) (p : Progress) (event : Event) (q : Progress) (told : Told) (late lane : Bool) →
-    (p.in_summary || nat_lt event.tick p.tick) ≡ late → is_lane w event.node ≡ lane → event_step w p event ≡ Ok (q, told) → Takes w p (Some (EventLine event)) q told
-event_taken w p event q told true lane a b h = absurd (let z = rw a at h in cc)
-event_taken w p event q told false false a b h = absurd (let z = rw (a, b) at h in cc)
-event_taken w p event q told false true a b h =
-    let e = same_ok _ _ (rw (a, b) at h) in (
+event_taken : (w : Window) (p : Progress) (event : Event) (q : Progress) (told : Told) (late lane wire : Bool) →
+    (p.in_summary || nat_lt event.tick p.tick) ≡ late → is_lane w event.node ≡ lane → has_wire w event ≡ wire → event_step w p event ≡ Ok (q, told) → Takes w p (Some (EventLine event)) q told
+event_taken w p event q told true lane wire a b d h = absurd (let z = rw a at h in cc)
+event_taken w p event q told false false wire a b d h = absurd (let z = rw (a, b) at h in cc)
+event_taken w p event q told false true false a b d h = absurd (let z = rw (a, b, d) at h in cc)
+event_taken w p event q told false true true a b d h =
+    let e = same_ok _ _ (rw (a, b, d) at h) in (
       b,
       sym (ap (λ (x : Progress × Told). x.1.bar) e),
       sym (ap (λ (x : Progress × Told). x.0) e),
       or_false p.in_summary (nat_lt event.tick p.tick) a,
       sym (ap (λ (x : Progress × Told). x.1.event) e),
       sym (ap (λ (x : Progress × Told). x.1.before) e),
+      d,
     )
 
 settled_taken : (w : Window) (p : Progress) (q : Progress) (told : Told) (s : Bool) → p.in_summary ≡ s → step w p Settled ≡ Ok (q, told) → Takes w p (Some Settled) q told
@@ -83,7 +85,7 @@ offer_taken w p q told false a h = absurd (let z = rw a at h in cc)
 offer_taken w p q told true a h = let e = same_ok _ _ (rw a at h) in stays p _ (q, told) e (refl, refl, refl, (refl, refl))
 
 taken : (w : Window) (p : Progress) (said : Option ReportLine) (q : Progress) (told : Told) → step_of w p said ≡ Ok (q, told) → Takes w p said q told
-taken w p (Some (EventLine event)) q told h = event_taken w p event q told (p.in_summary || nat_lt event.tick p.tick) (is_lane w event.node) refl refl h
+taken w p (Some (EventLine event)) q told h = event_taken w p event q told (p.in_summary || nat_lt event.tick p.tick) (is_lane w event.node) (has_wire w event) refl refl refl h
 taken w p (Some Settled) q told h = settled_taken w p q told p.in_summary refl h
 taken w p (Some (Totals node)) q told h = totals_taken w p node q told p.in_summary (is_lane w node) refl refl h
 taken w p (Some Offer) q told h = offer_taken w p q told p.in_summary refl h
@@ -102,7 +104,7 @@ line_taken w p number line q told h = go (nat_lt 4096 (Rattle.std.proofs.Common.
 -- the bars of the events of a line and of those that follow
 bars_of_line : (w : Window) (p q : Progress) (said : Option ReportLine) (told : Told) (events : List Event) → Takes w p said q told →
     option_to_list told.bar ++ bars_from w q events ≡ bars_from w p (event_of said ++ events)
-bars_of_line w p q (Some (EventLine event)) told events (lane, bar, next, early, some, before) = rw (bar, next) refl
+bars_of_line w p q (Some (EventLine event)) told events (lane, bar, next, early, some, before, wire) = rw (bar, next) refl
 bars_of_line w p q (Some Settled) told events (bar, same, none, rest) = rw bar (same_bars w events q p same)
 bars_of_line w p q (Some (Totals node)) told events (bar, same, none, rest) = rw bar (same_bars w events q p same)
 bars_of_line w p q (Some Offer) told events (bar, same, none, rest) = rw bar (same_bars w events q p same)

@@ -9,7 +9,7 @@ use Rattle.t1s_drawing.specs.ReadLines.{is_plain}
 use Rattle.t1s_drawing.specs.ShapeTexts.{bar_text, bottom, box_text, column_x, lane_y, legend_class, legend_words, mark_of, numbered_text, optional_text, part_class, part_number, shape_text, shown, summary_y, title_text, totals_class}
 use Rattle.t1s_drawing.specs.Xml.{Attribute, IsContent, are_attributes, attributes_text, is_character, is_in_value}
 use Rattle.t1s_drawing.specs.declared.report.Happening.{Happening}
-use Rattle.t1s_drawing.specs.declared.report.Happening.TheVariants.{Taken, Full, Off, InStep, LostStep, Jam, Drop, Beacon, Commit, Quiet, Leave, Good, Bad}
+use Rattle.t1s_drawing.specs.declared.report.Happening.TheVariants.{Taken, Full, Off, InStep, LostStep, Jam, Drop, Beacon, Commit, Quiet, Leave, Good, Bad, Hears}
 use Rattle.t1s_drawing.specs.declared.shapes.Part.{Part}
 use Rattle.t1s_drawing.specs.declared.shapes.Part.TheVariants.{Beacon as BeaconPart, Commit as CommitPart, Frame}
 use Rattle.t1s_drawing.specs.declared.shapes.Shape.{Shape}
@@ -118,6 +118,7 @@ mark_content before w Bad x y b = box_content before (codes "bad") (x, y + 36) (
 mark_content before w Commit x y b = b
 mark_content before w Quiet x y b = b
 mark_content before w (Leave n) x y b = b
+mark_content before w (Hears heard) x y b = b
 
 one_of_two : (test : ℕ → Bool) (b : Bool) (p q : List ℕ) → list_all test p ≡ true → list_all test q ≡ true → list_all test (if b then p else q) ≡ true
 one_of_two test true p q h k = h

@@ -18,7 +18,7 @@ use Rattle.t1s_drawing.specs.declared.window.Window.{Window}
 -- a window has a tick, and 1 to 32 nodes
 abbrev pub window_of : Form → Option ℕ → Option ℕ → Option ℕ → Option Window
 window_of form (Some from) (Some until) (Some nodes) =
-    if nat_lt from until && nat_lt 0 nodes && nat_le nodes 32 then Some (record { form = form; from = from; until = until; nodes = nodes }) else None
+    if nat_lt from until && nat_lt 0 nodes && nat_le nodes 32 then Some (record { form = form; from = from; until = until; nodes = nodes; heard = None }) else None
 window_of form _ _ _ = None
 
 abbrev pub picture_window : List ℕ → List ℕ → List ℕ → List ℕ → Option Window
@@ -28,10 +28,19 @@ picture_window word from until nodes =
 abbrev pub dump_window : List ℕ → List ℕ → List ℕ → Option Window
 dump_window word until nodes = if bytes_eq word (codes "wave") then window_of Waveform (Some 0) (small_number until) (small_number nodes) else None
 
+-- the window that also shows what a node hears, one of its nodes
+abbrev pub hearing : Option Window → Option ℕ → Option Window
+hearing (Some w) (Some node) =
+    if nat_lt node w.nodes then Some (record { form = w.form; from = w.from; until = w.until; nodes = w.nodes; heard = Some node }) else None
+hearing _ _ = None
+
+abbrev pub heard_window : List ℕ → List ℕ → List ℕ → List ℕ → Option Window
+heard_window word until nodes node = hearing (dump_window word until nodes) (small_number node)
+
 -- the window that words name: `picture`, the first tick, the tick after the last one, and how many nodes there are; or
--- `wave`, the tick after the last one, and how many nodes there are
+-- `wave`, the tick after the last one, how many nodes there are, and then nothing or the node of which it shows what it hears
 abbrev pub window_in : List (List ℕ) → Option Window
-window_in (word ∷ from ∷ until ∷ nodes ∷ []) = picture_window word from until nodes
+window_in (word ∷ first ∷ second ∷ third ∷ []) = if bytes_eq word (codes "picture") then picture_window word first second third else heard_window word first second third
 window_in (word ∷ until ∷ nodes ∷ []) = dump_window word until nodes
 window_in _ = None
 

@@ -1,12 +1,13 @@
 -- The value change dump of a report: what is written before, for and after its lines.
 use Rattle.std.specs.Prelude.{ℕ, ◌+◌, false, true, List, [], ◌∷◌, ◌++◌, nat_lt, codes, Option, Some, None, if◌then◌else◌}
-use Rattle.t1s_waveform.specs.Dumps.{Item, items_text, time_text}
-use Rattle.t1s_waveform.specs.Wires.{change, drive_changes}
+use Rattle.t1s_waveform.specs.Dumps.{Item, item_text, items_text, scope_text, time_text}
+use Rattle.t1s_waveform.specs.Wires.{change, drive_changes, heard_change, heard_scope}
+use Rattle.t1s_waveform.specs.declared.heard.Heard.TheVariants.{Silence}
 use Rattle.t1s_drawing.specs.Pieces.{each_text, piece_text}
 use Rattle.t1s_drawing.specs.Progress.{at_start}
 use Rattle.t1s_drawing.specs.declared.report.Event.{Event}
 use Rattle.t1s_drawing.specs.declared.report.Happening.{Happening}
-use Rattle.t1s_drawing.specs.declared.report.Happening.TheVariants.{Taken, Full, Off, InStep, LostStep, Jam, Drop, Beacon, Commit, Quiet, Leave, Good, Bad}
+use Rattle.t1s_drawing.specs.declared.report.Happening.TheVariants.{Taken, Full, Off, InStep, LostStep, Jam, Drop, Beacon, Commit, Quiet, Leave, Good, Bad, Hears}
 use Rattle.t1s_drawing.specs.declared.progress.Progress.{Progress}
 use Rattle.t1s_drawing.specs.declared.writing.Piece.TheVariants.{Scopes, Starts, Falls}
 use Rattle.t1s_drawing.specs.declared.window.Window.{Window}
@@ -16,11 +17,27 @@ use Rattle.t1s_drawing.specs.declared.window.Window.{Window}
 abbrev pub with_scopes : Window → List ℕ
 with_scopes w = codes "$timescale 100 ns $end\n" ++ each_text (piece_text Scopes w at_start) w.nodes
 
+-- the wire of what a node hears, where the dump shows that
+abbrev pub heard_scope_text : Option ℕ → List ℕ
+heard_scope_text (Some node) = scope_text (heard_scope node)
+heard_scope_text None = []
+
+abbrev pub with_wires : Window → List ℕ
+with_wires w = with_scopes w ++ heard_scope_text w.heard
+
 abbrev pub with_begin : Window → List ℕ
-with_begin w = with_scopes w ++ codes "$enddefinitions $end\n#0\n"
+with_begin w = with_wires w ++ codes "$enddefinitions $end\n#0\n"
+
+abbrev pub with_starts : Window → List ℕ
+with_starts w = with_begin w ++ each_text (piece_text Starts w at_start) w.nodes
+
+-- at first it hears nothing
+abbrev pub heard_start_text : Option ℕ → List ℕ
+heard_start_text (Some node) = item_text (heard_change Silence)
+heard_start_text None = []
 
 abbrev pub dump_opening : Window → List ℕ
-dump_opening w = with_begin w ++ each_text (piece_text Starts w at_start) w.nodes
+dump_opening w = with_starts w ++ heard_start_text w.heard
 
 -- ---- times
 
@@ -60,6 +77,7 @@ happening_changes node Good = change node 104 true ∷ []
 happening_changes node Bad = change node 105 true ∷ []
 happening_changes node (Jam number) = change node 106 true ∷ []
 happening_changes node (Drop number) = change node 107 true ∷ []
+happening_changes node (Hears what) = heard_change what ∷ []
 
 abbrev pub event_changes : Event → List Item
 event_changes event = happening_changes event.node event.what

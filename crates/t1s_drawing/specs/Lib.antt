@@ -16,3 +16,4 @@ pub mod DrawCall
 pub mod Xml
 pub mod BarLaws
 pub mod PictureBars
+pub mod DumpLaws

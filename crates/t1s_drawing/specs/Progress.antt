@@ -1,8 +1,10 @@
 -- How far a report has come, and what each of its lines gives.
-use Rattle.std.specs.Prelude.{ℕ, ◌&&◌, ◌||◌, Bool, true, false, not, List, replicate, nat_lt, get_or, slice_set, Option, Some, None, Result, Ok, Err, if◌then◌else◌}
+use Rattle.std.specs.Prelude.{ℕ, ◌&&◌, ◌||◌, ◌==◌, Bool, true, false, not, List, replicate, nat_lt, get_or, slice_set, Option, Some, None, Result, Ok, Err, if◌then◌else◌}
 use Rattle.t1s_drawing.specs.Shapes.{bar, mark, turn_of}
 use Rattle.t1s_drawing.specs.Pulses.{no_pulses, pulses_left, risen}
 use Rattle.t1s_drawing.specs.declared.report.Event.{Event}
+use Rattle.t1s_drawing.specs.declared.report.Happening.{Happening}
+use Rattle.t1s_drawing.specs.declared.report.Happening.TheVariants.{Hears}
 use Rattle.t1s_drawing.specs.declared.report.ReportLine.{ReportLine}
 use Rattle.t1s_drawing.specs.declared.report.ReportLine.TheVariants.{Event as EventLine, Settled as SettledLine, Totals as TotalsLine, Offer as OfferLine}
 use Rattle.t1s_drawing.specs.declared.shapes.Part.{Part}
@@ -52,14 +54,29 @@ told_bar w p event = ended_bar w p event (turn_of event.what)
 abbrev pub is_lane : Window → ℕ → Bool
 is_lane w node = nat_lt node w.nodes && nat_lt node 32
 
+-- the dump shows what the node hears
+abbrev pub hears_at : Option ℕ → ℕ → Bool
+hears_at (Some other) node = other == node
+hears_at None node = false
+
+abbrev pub wired : Option ℕ → ℕ → Happening → Bool
+wired heard node (Hears what) = hears_at heard node
+wired heard node _ = true
+
+-- it does, where the event tells that
+abbrev pub has_wire : Window → Event → Bool
+has_wire w event = wired w.heard event.node event.what
+
 abbrev pub Stepped : Type 0
 Stepped = Result (Progress × Told) Reason
 
--- an event stands before the summary, at no earlier tick than the one before it, and at a node of the picture
+-- an event stands before the summary, at no earlier tick than the one before it, at a node of the picture, and tells what a node
+-- hears only where the dump shows that
 abbrev pub event_step : Window → Progress → Event → Stepped
 event_step w p event =
     if p.in_summary || nat_lt event.tick p.tick then Err Order
     else if not (is_lane w event.node) then Err Node
+    else if not (has_wire w event) then Err Node
     else Ok (after_event p event, record { bar = told_bar w p event; mark = mark w event; event = Some event; before = p })
 
 -- what a line gives, and how far the report has come after it

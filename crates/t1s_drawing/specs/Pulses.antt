@@ -2,10 +2,10 @@
 use Rattle.std.specs.Prelude.{Bool, true, false, replicate, slice_set, if◌then◌else◌}
 use Rattle.t1s_drawing.specs.declared.report.Event.{Event}
 use Rattle.t1s_drawing.specs.declared.report.Happening.{Happening}
-use Rattle.t1s_drawing.specs.declared.report.Happening.TheVariants.{InStep, LostStep, Beacon, Commit, Quiet, Leave}
+use Rattle.t1s_drawing.specs.declared.report.Happening.TheVariants.{InStep, LostStep, Beacon, Commit, Quiet, Leave, Hears}
 use Rattle.t1s_drawing.specs.declared.pulses.Pulses.{Pulses}
 
--- all but what a node drives and its status
+-- all but what a node drives and hears, and its status
 abbrev pub is_pulse : Happening → Bool
 is_pulse Beacon = false
 is_pulse Commit = false
@@ -13,6 +13,7 @@ is_pulse (Leave number) = false
 is_pulse Quiet = false
 is_pulse InStep = false
 is_pulse LostStep = false
+is_pulse (Hears what) = false
 is_pulse _ = true
 
 abbrev pub no_pulses : Pulses

@@ -4,9 +4,10 @@ use Rattle.std.specs.Char.{is_ascii_digit, is_ascii_lowercase}
 use Rattle.std.specs.List.{list_all}
 use Rattle.std.specs.Str.{bytes_eq}
 use Rattle.t1s_base.specs.Numbers.{number_of}
+use Rattle.t1s_waveform.specs.declared.heard.Heard.TheVariants.{Silence, Beacon as HeardBeacon, Run, Bare, Torn, Blur}
 use Rattle.t1s_drawing.specs.Lines.{fields_of}
 use Rattle.t1s_drawing.specs.declared.report.Happening.{Happening}
-use Rattle.t1s_drawing.specs.declared.report.Happening.TheVariants.{Taken, Full, Off, InStep, LostStep, Jam, Drop, Beacon, Commit, Quiet, Leave, Good, Bad}
+use Rattle.t1s_drawing.specs.declared.report.Happening.TheVariants.{Taken, Full, Off, InStep, LostStep, Jam, Drop, Beacon, Commit, Quiet, Leave, Good, Bad, Hears}
 use Rattle.t1s_drawing.specs.declared.report.ReportLine.{ReportLine}
 use Rattle.t1s_drawing.specs.declared.report.ReportLine.TheVariants.{Event, Settled, Totals, Offer}
 
@@ -48,6 +49,17 @@ of_numbered word None = None
 abbrev pub status_in : List ℕ → Option Happening
 status_in field = if bytes_eq field (codes "ok") then Some InStep else if bytes_eq field (codes "lost") then Some LostStep else None
 
+-- the word of what is heard
+abbrev pub heard_in : List ℕ → Option Happening
+heard_in field =
+    if bytes_eq field (codes "silence") then Some (Hears Silence)
+    else if bytes_eq field (codes "beacon") then Some (Hears HeardBeacon)
+    else if bytes_eq field (codes "run") then Some (Hears Run)
+    else if bytes_eq field (codes "bare") then Some (Hears Bare)
+    else if bytes_eq field (codes "torn") then Some (Hears Torn)
+    else if bytes_eq field (codes "blur") then Some (Hears Blur)
+    else None
+
 -- the field names a piece that is no good frame
 abbrev pub is_kind : List ℕ → Bool
 is_kind field =
@@ -67,6 +79,7 @@ abbrev pub told : List ℕ → List ℕ → Option Happening
 told word field =
     if bytes_eq word (codes "status") then status_in field
     else if bytes_eq word (codes "arrive") then (if is_kind field then Some Bad else None)
+    else if bytes_eq word (codes "hears") then heard_in field
     else of_numbered word (small_number field)
 
 -- with all fields after the node; the octets of a good frame come last

@@ -4,7 +4,7 @@ use Rattle.std.specs.Str.{bytes_eq}
 use Rattle.t1s_drawing.specs.Elements.{begin_words, end_words, begin_box, end_box}
 use Rattle.t1s_drawing.specs.declared.report.Event.{Event}
 use Rattle.t1s_drawing.specs.declared.report.Happening.{Happening}
-use Rattle.t1s_drawing.specs.declared.report.Happening.TheVariants.{Taken, Full, Off, InStep, LostStep, Jam, Drop, Beacon, Commit, Quiet, Leave, Good, Bad}
+use Rattle.t1s_drawing.specs.declared.report.Happening.TheVariants.{Taken, Full, Off, InStep, LostStep, Jam, Drop, Beacon, Commit, Quiet, Leave, Good, Bad, Hears}
 use Rattle.t1s_drawing.specs.declared.shapes.Part.{Part}
 use Rattle.t1s_drawing.specs.declared.shapes.Part.TheVariants.{Beacon as BeaconPart, Commit as CommitPart, Frame}
 use Rattle.t1s_drawing.specs.declared.shapes.Shape.{Shape}
@@ -73,6 +73,7 @@ mark_of before w Bad x y = box_text before (codes "bad") (x, y + 36) (4, 8)
 mark_of before w Commit x y = before
 mark_of before w Quiet x y = before
 mark_of before w (Leave n) x y = before
+mark_of before w (Hears heard) x y = before
 
 abbrev pub mark_text : List ℕ → Window → Event → List ℕ
 mark_text before w event = mark_of before w event.what (column_x w event.tick) (lane_y event.node)

@@ -1,7 +1,7 @@
 -- What a picture is made of, and what an event gives.
 use Rattle.std.specs.Prelude.{ℕ, ◌&&◌, Bool, true, false, min, max, nat_lt, nat_le, Option, Some, None, if◌then◌else◌}
 use Rattle.t1s_drawing.specs.declared.report.Happening.{Happening}
-use Rattle.t1s_drawing.specs.declared.report.Happening.TheVariants.{Beacon, Commit, Quiet, Leave}
+use Rattle.t1s_drawing.specs.declared.report.Happening.TheVariants.{Beacon, Commit, Quiet, Leave, Hears}
 use Rattle.t1s_drawing.specs.declared.report.Event.{Event}
 use Rattle.t1s_drawing.specs.declared.shapes.Part.{Part}
 use Rattle.t1s_drawing.specs.declared.shapes.Part.TheVariants.{Beacon as BeaconPart, Commit as CommitPart, Frame}
@@ -29,11 +29,12 @@ turn_of (Leave number) = Some (Some (Frame number))
 turn_of Quiet = Some None
 turn_of _ = None
 
--- what only begins or ends a bar has no mark of its own
+-- what only begins or ends a bar has no mark of its own, nor what a node hears
 abbrev pub has_mark : Happening → Bool
 has_mark Commit = false
 has_mark (Leave number) = false
 has_mark Quiet = false
+has_mark (Hears heard) = false
 has_mark _ = true
 
 -- the mark of an event in the window

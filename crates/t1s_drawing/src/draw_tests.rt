@@ -152,3 +152,33 @@ fn a_dump_ends_at_the_line_that_is_refused(rt: HostRuntime) -> Result<(), Fail> 
     }
     Ok(())
 }
+
+#[test]
+fn a_dump_shows_what_a_node_hears(rt: HostRuntime) -> Result<(), Fail> {
+    let words = ["wave", "50", "2", "1"];
+    let report = b"3 hears 1 torn\n7 hears 1 blur\n9 hears 1 silence\nsettled never\n";
+    let (status, written) = drawn(&rt, &words, report, (&[], &[]))?;
+    assert_eq!(rt; status, Status::Done);
+    let changes = b"\n0Bk\nb000 aa\n#3\nb100 aa\n#7\nb101 aa\n#9\nb000 aa\n#50\n";
+    assert_eq!(rt; ends_with(written.as_slice(), changes), true);
+    let table: [(&[u8], &[u8]); 3] = [
+        (b"3 hears 0 run\n", b"\nrefused 1 Node\n"),
+        (b"3 hears 1 noise\n", b"\nrefused 1 Line\n"),
+        (
+            b"3 hears 1 bare\n2 hears 1 silence\n",
+            b"\nb011 aa\nrefused 2 Order\n",
+        ),
+    ];
+    for (report, line) in table {
+        let (status, written) = drawn(&rt, &words, report, (&[], &[]))?;
+        assert_eq!(rt; status, Status::Refused);
+        assert_eq!(rt; ends_with(written.as_slice(), line), true);
+    }
+    let (_, written) = drawn(&rt, &WORDS, b"3 hears 0 run\n", (&[], &[]))?;
+    assert_eq!(rt; ends_with(written.as_slice(), b"\nrefused 1 Node\n"), true);
+    assert_eq!(rt;
+        drawn(&rt, &["wave", "50", "2", "2"], b"", (&[], &[]))?.0,
+        Status::Usage
+    );
+    Ok(())
+}

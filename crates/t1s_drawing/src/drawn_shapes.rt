@@ -76,7 +76,7 @@ fn numbered(out: &mut Line, class: &[u8], x: u64, y: u64, words: &[u8], n: u64)
 }
 
 /// A box without a title.
-fn plain_box(out: &mut Line, class: &[u8], place: (u64, u64), size: (u64, u64))
+pub(crate) fn plain_box(out: &mut Line, class: &[u8], place: (u64, u64), size: (u64, u64))
     requires room { length out.old ≤ 2000 }
     requires class { length class.now ≤ 20 }
     ensures value { out.new ≡ box_text out.old class.now place size }
@@ -143,7 +143,7 @@ fn put_mark(out: &mut Line, w: &Window, event: Event)
         Happening::Beacon => plain_box(out, b"cycle", (x, 44), (1, bottom(w) - 44)),
         Happening::Good => plain_box(out, b"good", (x, y + 36), (4, 8)),
         Happening::Bad => plain_box(out, b"bad", (x, y + 36), (4, 8)),
-        Happening::Commit | Happening::Quiet | Happening::Leave(_) => {}
+        Happening::Commit | Happening::Quiet | Happening::Leave(_) | Happening::Hears(_) => {}
     }
 }
 

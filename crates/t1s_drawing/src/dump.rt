@@ -2,7 +2,7 @@
 ghost use Rattle.std.specs.Prelude.{◌≡◌, ◌+◌, ◌≤◌, ◌<◌, true, false, List, [], ◌∷◌, ◌++◌, length, codes};
 ghost use Rattle.t1s_waveform.specs.Dumps.{items_text, time_text};
 ghost use Rattle.t1s_drawing.specs.Calls.{Wrote};
-ghost use Rattle.t1s_drawing.specs.Dump.{before_text, changes_text, dump_opening, event_changes, event_text, fallen_text, falls_text, last_time, moved_text, time_after, with_begin, with_scopes};
+ghost use Rattle.t1s_drawing.specs.Dump.{before_text, changes_text, dump_opening, event_changes, event_text, fallen_text, falls_text, heard_scope_text, heard_start_text, last_time, moved_text, time_after, with_begin, with_scopes, with_starts, with_wires};
 ghost use Rattle.t1s_drawing.specs.Progress.{at_start};
 
 use crate::progress::Progress;
@@ -10,7 +10,7 @@ use crate::report::{Event, Happening};
 use crate::window::Window;
 use crate::writing::{Piece, write_each, write_line};
 use t1s_base::{Failed, Line, Sink};
-use t1s_waveform::{put_change, put_drive, put_time};
+use t1s_waveform::{Heard, put_change, put_drive, put_heard, put_heard_scope, put_time};
 
 /// Writes a text.
 fn write_octets<K: Sink>(text: &[u8], sink: &mut K) -> Result<(), Failed>
@@ -33,15 +33,75 @@ fn write_scopes<K: Sink>(w: &Window, progress: &Progress, sink: &mut K) -> Resul
     }
 }
 
+/// The declaration of the wire of what a node hears, where the dump shows that, in an empty line.
+fn put_heard_wire(out: &mut Line, heard: Option<u32>)
+    requires { out.old ≡ [] }
+    ensures { out.new ≡ heard_scope_text heard }
+{
+    if let Some(node) = heard {
+        put_heard_scope(out, node);
+    }
+}
+
+/// Writes it.
+fn write_heard_wire<K: Sink>(w: &Window, sink: &mut K) -> Result<(), Failed>
+    ensures { Wrote K.written K.faults (heard_scope_text w.now.heard) sink.old sink.new result }
+{
+    let mut line = Line::new();
+    put_heard_wire(&mut line, w.heard);
+    write_line(&line, sink)
+}
+
+/// Writes all declarations.
+fn write_wires<K: Sink>(w: &Window, progress: &Progress, sink: &mut K) -> Result<(), Failed>
+    requires { progress.now ≡ at_start }
+    ensures { Wrote K.written K.faults (with_wires w.now) sink.old sink.new result }
+{
+    match write_scopes(w, progress, sink) {
+        Ok(()) => write_heard_wire(w, sink),
+        Err(failed) => Err(failed),
+    }
+}
+
 /// Writes all up to tick 0.
 fn write_begin<K: Sink>(w: &Window, progress: &Progress, sink: &mut K) -> Result<(), Failed>
     requires { progress.now ≡ at_start }
     ensures { Wrote K.written K.faults (with_begin w.now) sink.old sink.new result }
 {
-    match write_scopes(w, progress, sink) {
+    match write_wires(w, progress, sink) {
         Ok(()) => write_octets(b"$enddefinitions $end\n#0\n", sink),
         Err(failed) => Err(failed),
     }
+}
+
+/// Writes all up to the values of the wires of the nodes.
+fn write_starts<K: Sink>(w: &Window, progress: &Progress, sink: &mut K) -> Result<(), Failed>
+    requires { progress.now ≡ at_start }
+    ensures { Wrote K.written K.faults (with_starts w.now) sink.old sink.new result }
+{
+    match write_begin(w, progress, sink) {
+        Ok(()) => write_each(Piece::Starts, w, progress, w.nodes, sink),
+        Err(failed) => Err(failed),
+    }
+}
+
+/// What a node hears at first, where the dump shows that, in an empty line.
+fn put_heard_start(out: &mut Line, heard: Option<u32>)
+    requires { out.old ≡ [] }
+    ensures { out.new ≡ heard_start_text heard }
+{
+    if let Some(_) = heard {
+        put_heard(out, Heard::Silence);
+    }
+}
+
+/// Writes it.
+fn write_heard_start<K: Sink>(w: &Window, sink: &mut K) -> Result<(), Failed>
+    ensures { Wrote K.written K.faults (heard_start_text w.now.heard) sink.old sink.new result }
+{
+    let mut line = Line::new();
+    put_heard_start(&mut line, w.heard);
+    write_line(&line, sink)
 }
 
 /// Writes all that stands before the changes of the lines.
@@ -53,8 +113,8 @@ pub(crate) fn write_dump_opening<K: Sink>(
     requires { progress.now ≡ at_start }
     ensures { Wrote K.written K.faults (dump_opening w.now) sink.old sink.new result }
 {
-    match write_begin(w, progress, sink) {
-        Ok(()) => write_each(Piece::Starts, w, progress, w.nodes, sink),
+    match write_starts(w, progress, sink) {
+        Ok(()) => write_heard_start(w, sink),
         Err(failed) => Err(failed),
     }
 }
@@ -162,6 +222,7 @@ fn put_event(out: &mut Line, event: Event)
         Happening::Bad => put_change(out, node, b'i', true),
         Happening::Jam(_) => put_change(out, node, b'j', true),
         Happening::Drop(_) => put_change(out, node, b'k', true),
+        Happening::Hears(what) => put_heard(out, what),
     }
 }
 

@@ -1,5 +1,6 @@
 //! Laws of the definitions.
 ghost use Rattle.t1s_drawing.specs.BarLaws.{BarsAreDrives};
+ghost use Rattle.t1s_drawing.specs.DumpLaws.{DumpsShowRuns};
 ghost use Rattle.t1s_drawing.specs.PictureBars.{PicturesHaveBars};
 
 /// The bars of a picture are exactly the parts of drives that the events of its report tell, as far as the window shows
@@ -11,4 +12,10 @@ pub fn bars_are_drives()
 /// The bars of a picture that isn't refused are those of the events that its lines tell, which are at nodes of the picture.
 pub fn pictures_have_bars()
     ensures { PicturesHaveBars }
+{}
+
+/// A dump that isn't refused shows the run that its lines tell: the wire `drives` of each node is 1 in exactly the ticks of the
+/// drives that they tell, and the wire `hears` has in each tick what they tell is heard.
+pub fn dumps_show_runs()
+    ensures { DumpsShowRuns }
 {}

@@ -3,12 +3,12 @@
 //! The program uses that `draw` writes exactly the text that its definition gives for the report that it reads, or refuses
 //! the line that is none of a report, and that each of its answers has the cause that its clauses name. A picture that
 //! isn't refused is an XML document, by a small grammar of XML; its bars are exactly the parts of the drives that the
-//! report tells (`laws`).
+//! report tells (`laws`). A dump that isn't refused is a valid one, and shows the run that the report tells (`laws`).
 //!
 //! What a line says stands in `specs/ReadLines.antt`, the shapes that it gives in `specs/Shapes.antt` and
 //! `specs/Progress.antt`, their texts in `specs/Elements.antt` and `specs/ShapeTexts.antt`, what it changes in a dump in
 //! `specs/Dump.antt`, and the whole text in `specs/Written.antt`. The grammar of XML stands in `specs/Xml.antt`, the law of
-//! the bars in `specs/BarLaws.antt`.
+//! the bars in `specs/BarLaws.antt`, that of dumps in `specs/DumpLaws.antt`.
 //!
 //! It takes no memory: a report is drawn as it is read, and what is kept is a line of at most 4096 octets and, for each of
 //! 32 nodes at most, what it drives and since when, and whether it has a pulse.

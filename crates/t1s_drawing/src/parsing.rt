@@ -2,11 +2,12 @@
 ghost use Rattle.std.specs.Prelude.{◌≡◌};
 ghost use Rattle.std.specs.List.{list_all};
 ghost use Rattle.t1s_drawing.specs.Lines.{fields_of};
-ghost use Rattle.t1s_drawing.specs.ReadLines.{is_plain, is_line_octet, is_kind, small_number, of_frame, status_in, alone, told, happening_in, placed, event_in, settled_in, totals_in, offer_in, summary_in, line_in, line_of, is_summary_word};
+ghost use Rattle.t1s_drawing.specs.ReadLines.{is_plain, is_line_octet, is_kind, small_number, of_frame, heard_in, status_in, alone, told, happening_in, placed, event_in, settled_in, totals_in, offer_in, summary_in, line_in, line_of, is_summary_word};
 
 use crate::fields::Fields;
 use crate::report::{Event, Happening, ReportLine};
 use t1s_base::read_number;
+use t1s_waveform::Heard;
 
 /// The greatest tick, and the greatest number of an offer.
 const GREATEST: u64 = 4_294_967_295;
@@ -69,6 +70,27 @@ fn status_in(field: &[u8]) -> Option<Happening>
     }
 }
 
+/// The word of what is heard.
+fn heard_in(field: &[u8]) -> Option<Happening>
+    ensures { result ≡ heard_in field.now }
+{
+    if field == b"silence".as_slice() {
+        Some(Happening::Hears(Heard::Silence))
+    } else if field == b"beacon".as_slice() {
+        Some(Happening::Hears(Heard::Beacon))
+    } else if field == b"run".as_slice() {
+        Some(Happening::Hears(Heard::Run))
+    } else if field == b"bare".as_slice() {
+        Some(Happening::Hears(Heard::Bare))
+    } else if field == b"torn".as_slice() {
+        Some(Happening::Hears(Heard::Torn))
+    } else if field == b"blur".as_slice() {
+        Some(Happening::Hears(Heard::Blur))
+    } else {
+        None
+    }
+}
+
 /// Whether the field names a piece that is no good frame.
 fn is_kind(field: &[u8]) -> bool
     ensures { result ≡ is_kind field.now }
@@ -108,6 +130,8 @@ fn told(word: &[u8], field: &[u8]) -> Option<Happening>
         } else {
             None
         }
+    } else if word == b"hears".as_slice() {
+        heard_in(field)
     } else {
         match small_number(field) {
             Some(number) => of_frame(word, number),

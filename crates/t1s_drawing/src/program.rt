@@ -1,11 +1,11 @@
 // All that a call does.
-ghost use Rattle.std.specs.Prelude.{◌≡◌, ◌≤◌, ◌⊎◌, ◌↔◌, ℕ, List, [], ◌++◌, true, false, Some, None};
+ghost use Rattle.std.specs.Prelude.{◌≡◌, ◌≤◌, ◌⊎◌, ◌↔◌, ℕ, List, [], ◌∷◌, ◌++◌, true, false, Some, None};
 ghost use Rattle.t1s_base.specs.Causes.{FaultCountRose};
 ghost use Rattle.t1s_base.specs.Octets.{Gives, Grows, GrowsByPrefix};
 ghost use Rattle.t1s_waveform.specs.Dumps.{IsDump};
 ghost use Rattle.t1s_drawing.specs.Calls.{HasFaultCause};
 ghost use Rattle.t1s_drawing.specs.Drawn.{Drawn, status_of};
-ghost use Rattle.t1s_drawing.specs.DrawCall.{AreWords, DrawCall, dump_window, picture_window, window_in, window_of, word_octets};
+ghost use Rattle.t1s_drawing.specs.DrawCall.{AreWords, DrawCall, dump_window, heard_window, hearing, picture_window, window_in, window_of, word_octets};
 ghost use Rattle.t1s_drawing.specs.Written.{drawing_of};
 ghost use Rattle.t1s_drawing.specs.Xml.{IsDocument};
 ghost use Rattle.t1s_drawing.specs.declared.window.Window.{Window};
@@ -38,6 +38,7 @@ fn window_of(
                     from,
                     until,
                     nodes,
+                    heard: None,
                 })
             } else {
                 None
@@ -79,16 +80,56 @@ fn dump_window(word: &[u8], until: &[u8], nodes: &[u8]) -> Option<Window>
     }
 }
 
+/// The window that also shows what this node hears, where there is such a node.
+fn hearing(window: Option<Window>, node: Option<u32>) -> Option<Window>
+    ensures { result ≡ hearing window node }
+{
+    match (window, node) {
+        (Some(w), Some(node)) => {
+            if node < w.nodes {
+                Some(Window {
+                    form: w.form,
+                    from: w.from,
+                    until: w.until,
+                    nodes: w.nodes,
+                    heard: Some(node),
+                })
+            } else {
+                None
+            }
+        }
+        _ => None,
+    }
+}
+
+/// The window of a dump that shows what a node hears.
+fn heard_window(word: &[u8], until: &[u8], nodes: &[u8], node: &[u8]) -> Option<Window>
+    ensures { result ≡ heard_window word.now until.now nodes.now node.now }
+{
+    hearing(dump_window(word, until, nodes), small_number(node))
+}
+
+/// The window that four words name.
+fn window_of_four(word: &[u8], first: &[u8], second: &[u8], third: &[u8]) -> Option<Window>
+    ensures { result ≡ window_in (word.now ∷ first.now ∷ second.now ∷ third.now ∷ []) }
+{
+    if word == b"picture".as_slice() {
+        picture_window(word, first, second, third)
+    } else {
+        heard_window(word, first, second, third)
+    }
+}
+
 /// The window that the words name.
 fn window_in(words: &[String]) -> Option<Window>
     ensures { result ≡ window_in (word_octets words.now) }
 {
     match words {
-        [word, from, until, nodes] => picture_window(
+        [word, first, second, third] => window_of_four(
             word.as_bytes(),
-            from.as_bytes(),
-            until.as_bytes(),
-            nodes.as_bytes(),
+            first.as_bytes(),
+            second.as_bytes(),
+            third.as_bytes(),
         ),
         [word, until, nodes] => { dump_window(word.as_bytes(), until.as_bytes(), nodes.as_bytes()) }
         _ => None,
@@ -133,11 +174,14 @@ fn draw_window<S: Source, K: Sink>(w: &Window, source: &mut S, sink: &mut K) -> 
 /// Does all that the program does: takes the words of the command line, reads a report and writes its picture or its dump.
 ///
 /// The words are `picture FROM UNTIL NODES`: the first tick that is drawn, the tick after the last one, and how many nodes
-/// the segment has, numbered from 0; or `wave UNTIL NODES`. The report is that of the command `run`, and is read in pieces of
-/// at most 4096 octets. The picture is an SVG, written in one pass: the lanes, the ticks and the legend, then what each line
+/// the segment has, numbered from 0; or `wave UNTIL NODES`, or `wave UNTIL NODES K`. The report is that of the command `run`, and is
+/// read in pieces of at most 4096 octets. With K further lines may stand among its events, in the order of their ticks:
+/// `TICK hears K WHAT`, by which node K hears from that tick on `silence`, a `beacon`, a `run` of pieces, a `bare` commit, or of a
+/// torn burst the symbols (`torn`) or the `blur`. The picture is an SVG, written in one pass: the lanes, the ticks and the legend, then what each line
 /// of the report gives, by one `write` call a line, and at its end the bars of what is still driven. The dump is a value
 /// change dump (VCD) with a time unit of 100 ns, a tick: the wires of each node, then for each tick that has an event what it
-/// changes, and one tick later the ends of its pulses, and at its end the tick UNTIL. No memory is taken.
+/// changes, and one tick later the ends of its pulses, and at its end the tick UNTIL; with K also a wire of three bits, what node K
+/// hears. No memory is taken.
 ///
 /// The answers: `Usage` where the words are no others, and nothing was read or written. `ReadFault` and `WriteFault` where the
 /// source or the sink failed, at once. `Refused` where the input is no report: the last line says which line isn't, by its

@@ -1,9 +1,9 @@
 // How far a report has come.
 ghost use Rattle.std.specs.Prelude.{◌≡◌, ◌<◌, Ok, Err, IfOk, IfErr, None, get_or};
-ghost use Rattle.t1s_drawing.specs.Progress.{at_start, drive_from, turned, event_step, step, is_lane, told_bar};
+ghost use Rattle.t1s_drawing.specs.Progress.{at_start, drive_from, turned, event_step, has_wire, hears_at, step, is_lane, told_bar};
 
 use crate::pulses::Pulses;
-use crate::report::{Event, ReportLine};
+use crate::report::{Event, Happening, ReportLine};
 use crate::shapes::{Drive, Part, Shape, bar, mark, turn_of};
 use crate::window::Window;
 
@@ -19,7 +19,7 @@ pub enum Reason {
     Line,
     /// Its tick is below one before it, or it belongs to the events and stands in the summary, or the other way round.
     Order,
-    /// The picture has no such node.
+    /// The picture has no such node, or the dump doesn't show what this one hears.
     Node,
     /// There are more than 2^30 lines.
     TooMany,
@@ -65,6 +65,26 @@ fn is_lane(w: &Window, node: u32) -> bool
     ensures value { result ≡ is_lane w.now node }
 {
     node < w.nodes && node < MOST_LANES
+}
+
+/// Whether the dump shows what the node hears.
+fn hears_at(heard: Option<u32>, node: u32) -> bool
+    ensures { result ≡ hears_at heard node }
+{
+    match heard {
+        Some(other) => other == node,
+        None => false,
+    }
+}
+
+/// Whether the dump shows what the node hears, where the event tells that.
+fn has_wire(w: &Window, event: Event) -> bool
+    ensures { result ≡ has_wire w.now event }
+{
+    match event.what {
+        Happening::Hears(_) => hears_at(w.heard, event.node),
+        _ => true,
+    }
 }
 
 impl Progress {
@@ -115,6 +135,9 @@ impl Progress {
             return Err(Reason::Order);
         }
         if !is_lane(w, event.node) {
+            return Err(Reason::Node);
+        }
+        if !has_wire(w, event) {
             return Err(Reason::Node);
         }
         let before = *self;

@@ -23,6 +23,7 @@ fn is_pulse(what: Happening) -> bool
             | Happening::Quiet
             | Happening::InStep
             | Happening::LostStep
+            | Happening::Hears(_)
     )
 }
 

@@ -1,5 +1,7 @@
 // What the lines of a report say.
 
+use t1s_waveform::Heard;
+
 /// What happened at a node. A number names the offer that the frame came from.
 #[derive(Clone, Copy)]
 pub(crate) enum Happening {
@@ -29,6 +31,8 @@ pub(crate) enum Happening {
     Good,
     /// A piece arrived that is no good frame.
     Bad,
+    /// What the node hears from this tick on, by its capture.
+    Hears(Heard),
 }
 
 /// What happened at a node in a tick.

@@ -92,7 +92,7 @@ fn has_mark(what: Happening) -> bool
 {
     !matches!(
         what,
-        Happening::Commit | Happening::Leave(_) | Happening::Quiet
+        Happening::Commit | Happening::Leave(_) | Happening::Quiet | Happening::Hears(_)
     )
 }
 

@@ -7,7 +7,7 @@ ghost use Rattle.t1s_drawing.specs.Picture.{head, head_text, height, picture_clo
 ghost use Rattle.t1s_drawing.specs.Progress.{at_start};
 ghost use Rattle.t1s_drawing.specs.Written.{closing, opening, reason_name, refused_line, told_text};
 
-use crate::drawn_shapes::{label, put_optional, summary_y};
+use crate::drawn_shapes::{label, plain_box, put_optional, summary_y};
 use crate::dump::{write_changes, write_dump_opening, write_moved};
 use crate::progress::{Progress, Reason, Told};
 use crate::shapes::{Shape, bar};
@@ -152,10 +152,10 @@ fn put_head(out: &mut Line, w: &Window)
     number(out, width(w));
     text(out, b"' height='");
     number(out, height(w));
-    text(out, b"' style='background:white'>\n");
+    text(out, b"'>\n");
     text(
         out,
-        b"<style>text{font:11px sans-serif}.lane{fill:#f1f3f5}.grid{fill:#dde1e6}.cycle{fill:#9aa5b1}",
+        b"<style>text{font:11px sans-serif}.paper{fill:white}.lane{fill:#f1f3f5}.grid{fill:#dde1e6}.cycle{fill:#9aa5b1}",
     );
     text(
         out,
@@ -167,12 +167,13 @@ fn put_head(out: &mut Line, w: &Window)
     );
 }
 
-/// Writes the head, and a note.
+/// Writes the head, the paper below all else, and a note.
 fn write_head<K: Sink>(w: &Window, sink: &mut K) -> Result<(), Failed>
     ensures { Wrote K.written K.faults (head_text w.now) sink.old sink.new result }
 {
     let mut line = Line::new();
     put_head(&mut line, w);
+    plain_box(&mut line, b"paper", (0, 0), (width(w), height(w)));
     label(
         &mut line,
         b"note",

@@ -21,7 +21,8 @@ size_of_script() {
     awk '$1 == "node" && $2 + 1 > lanes { lanes = $2 + 1 } $1 == "end" { end = $2 } END { print end + 0, lanes + 0 }' <"$input"
 }
 
-# Runs the script, and draws its run: `words`, `file` and `drawn_as`, the command, have been read.
+# Runs the script, and draws its run: `words`, `file` and `drawn_as`, the command, have been read, and `node`, where a dump shows what
+# that node hears.
 draw_run() {
     open_input "$file"
     is_current || build
@@ -38,6 +39,7 @@ draw_run() {
         input=$scratch/input
     }
     size=$(size_of_script)
+    [ -z "${node-}" ] || hear_node
     { "$runner" run; echo $? >"$scratch/run"; } | draw_report
     drawn=$?
     ended=$(cat "$scratch/run")

@@ -4,10 +4,13 @@
 FNR == NR {
   split($0, columns, "|")
   fields_of[columns[1]] = columns[2]
+  since[columns[1]] = columns[3] == "" ? 1 : columns[3]
   next
 }
 
 { lines = FNR }
+
+FNR == 1 { version = substr($0, 5) }
 
 (place == 0 || FNR <= place) && !/^#/ { note_line() }
 
@@ -170,14 +173,20 @@ function blank() {
 }
 
 function first_line() {
-  if (lines == 0) return "the input is empty; the first line of a script is `t1s 1`"
-  return "the first line of a script is `t1s 1`, exactly so" carriage_return()
+  if (lines == 0) return "the input is empty; the first line of a script is `t1s 1` or `t1s 2`"
+  return "the first line of a script is `t1s 1` or `t1s 2`, exactly so" carriage_return()
 }
 
 function unknown_word() {
   if (text == "" || text == "\r") return "a blank line is refused; a line without effect begins with #" carriage_return()
   if (text ~ /^[ \t]/) return "a line begins with its word, and a blank stands before it"
-  return quoted(field[1]) " is no word of a script" (near == "" ? "" : "; the nearest is `" near " " names_of(near) "`") carriage_return()
+  if (field[1] in since) return quoted(field[1]) " is a word since version " since[field[1]] ", and line 1 says that the script is of version " version
+  return quoted(field[1]) " is no word of a script" (near == "" ? "" : "; the nearest is `" near " " names_of(near) "`" later(near)) carriage_return()
+}
+
+# What is said of a word that is none of this version.
+function later(word) {
+  return since[word] + 0 > version + 0 ? ", a word since version " since[word] : ""
 }
 
 function form(    many, wanted) {

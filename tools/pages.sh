@@ -149,6 +149,7 @@ zsh_arguments() {
         case $argument in
         PREFIX) printf " '1:folder:_directories'" ;;
         '[FROM' | 'UNTIL]') printf " ':a tick:'" ;;
+        '[K]') printf " ':the number of a node, 0 to 15:'" ;;
         '[FILE]') printf " ':file:_files'" ;;
         *COMMAND*) printf " '1:command:(%s)'" "$(commands | tr '\n' ' ')" ;;
         *) printf " ':%s:'" "$(meaning_of "$argument")" ;;

@@ -88,6 +88,12 @@ script 't1s 1/node 0 0 0/noise 9 2000001/end 20' 'refused 3 OutOfRange' '|      
 script 't1s 1/node 0 0 0/noise 2000001 9/end 20' 'refused 3 OutOfRange' '|       ^^^^^^^' 'T of `noise` is 0 to 2000000'
 script 't1s 1/node 0 0 0/noise 5 9/fill 4 0 60 00/end 20' 'refused 4 Order' 'line 3 above has the tick 5'
 script 't1s 1/node 0 0 0/noise 5 90/end 5' 'refused 4 Order' '`end` is above the tick of each timed line, and line 3 has the tick 5'
+script 't1s 1/node 0 0 0/stub 0 5/end 9' 'refused 3 UnknownWord' '| ^^^^' '`stub` is a word since version 2, and line 1 says that the script is of version 1'
+script 't1s 1/node 0 0 0/stab 0 5/end 9' 'refused 3 UnknownWord' '`stab` is no word of a script; the nearest is `stub NO U`, a word since version 2'
+script 't1s 2/node 0 0 0/stab 0 5/end 9' 'refused 3 UnknownWord' '`stab` is no word of a script; the nearest is `stub NO U`'
+script 't1s 2/node 0 0 0/stub 0 32/end 9' 'refused 3 OutOfRange' '|        ^^' 'U of `stub` is 0 to 31, and `32` is outside'
+script 't1s 2/node 0 0 0/stub 0 5/stub 0 5/end 9' 'refused 4 Twice' '`stub` may stand once for a node, and that of node 0 stands in line 3 already'
+script 't1s 2/node 0 0 0/stub 9 5/end 9' 'refused 3 UnknownNode' '|      ^' 'no `node` line of node 9 stands above'
 draws=$(printf '/draw 0 7%.0s' $(seq 65))
 script "t1s 1/node 0 0 0$draws/end 9" 'refused 67 TooMany' '|      ^' 'at most 64 `draw` lines, and 64 of node 0 stand above'
 fills=$(printf '/fill 5 0 60 00%.0s' $(seq 4097))
@@ -95,7 +101,7 @@ script "t1s 1/node 0 0 0$fills/end 9" 'refused 4099 TooMany' 'at most 4096 timed
 script 't1s 1/end 10' 'refused 2 NoNode' 'at least one `node` line'
 script 't1s 1/node 0 0 0' 'refused 3 NoEnd' 'a script ends with a line `end T`'
 script 't1s 1/node 0 0 0/end 9/end 9' 'refused 4 AfterEnd' 'nothing but lines that begin with # may stand behind `end`, which is line 3'
-script 't1s 2/node 0 0 0/end 9' 'refused 1 FirstLine' 'the first line of a script is `t1s 1`'
+script 't1s 3/node 0 0 0/end 9' 'refused 1 FirstLine' 'the first line of a script is `t1s 1` or `t1s 2`'
 printf 't1s 1\r\nnode 0 0 0\r\nend 9\r\n' >"$room/input"
 row run 'refused 1 FirstLine' 'carriage return'
 printf 't1s 1\nnode 0 0 0\r\nend 9\r\n' >"$room/input"

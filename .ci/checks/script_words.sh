@@ -27,6 +27,8 @@ refused '`capture K` takes the number of a node, 0 to 15, and `01` is none' capt
 refused '`capture K` takes the number of a node, 0 to 15, and `node.t1s` is none' capture node.t1s
 refused '`capture` takes one file, and `more` is a word too many' capture 2 script.t1s more
 refused '`run` takes one file, and `b` is a word too many' run a b
+refused '`wave K` takes the number of a node, 0 to 15, and `16` is none' wave 16 script.t1s
+refused '`wave` takes the number of a node and a file, and `more` is a word too many' wave 2 script.t1s more
 refused '`gen` lacks FRAMES, a number of frames, 0 to 400' gen 1 2
 refused '`gen NODES` takes a number of nodes, 1 to 16, and `0` is none' gen 1 0 0
 refused '`load SEED` takes the seed of a script, 0 to 4294967295, and `4294967296` is none' load 4294967296 1 0

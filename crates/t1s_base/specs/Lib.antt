@@ -3,3 +3,4 @@ pub mod Octets
 pub mod Memory
 pub mod Numbers
 pub mod Limits
+pub mod NodeIds

@@ -1,5 +1,5 @@
 use crate::{
-    Failed, Line, MemSink, MemSource, NoRoom, NullSink, QuietSource, Sink, Source, StdSink,
+    Failed, Ids, Line, MemSink, MemSource, NoRoom, NullSink, QuietSource, Sink, Source, StdSink,
     StdSource, WriteStop, laws, put_number, put_text, read_number,
 };
 use std::io;
@@ -152,4 +152,21 @@ fn numbers_have_one_to_ten_digits(rt: HostRuntime) {
     for (text, number) in table {
         assert_eq!(rt; read_number(text), number);
     }
+}
+
+#[test]
+fn a_node_has_one_to_four_ids(rt: HostRuntime) {
+    let mut ids = Ids::one(255);
+    assert_eq!(rt; ids.add(255), Err(255));
+    assert_eq!(rt; ids.add(0), Ok(()));
+    let two = ids.copy();
+    assert_eq!(rt; ids.add(2), Ok(()));
+    assert_eq!(rt; ids.add(0), Err(0));
+    assert_eq!(rt; ids.add(1), Ok(()));
+    assert_eq!(rt; ids.add(3), Err(3));
+    let held = [ids.get(0), ids.get(1), ids.get(2), ids.get(3), ids.get(4)];
+    assert_eq!(rt; held, [Some(255), Some(0), Some(2), Some(1), None]);
+    assert!(rt; ids.has(1) && !ids.has(3));
+    assert!(rt; two.has(255) && two.has(0) && !two.has(2));
+    assert_eq!(rt; two.get(2), None);
 }

@@ -1,6 +1,6 @@
 -- How long control and status are calm, and what their calm ticks lead through.
 use Rattle.std.proofs.Common.{◌≡◌, ℕ, suc, ◌+◌, ◌-◌, ◌*◌, ◌<◌, ◌≤◌, ◌==◌, Bool, true, false, ◌&&◌, refl, arith, rules, ap, sym, subst, ◌∙◌}
-use Rattle.std.specs.Prelude.{IsTrue, min, nat_le, nat_lt}
+use Rattle.std.specs.Prelude.{IsTrue, min, nat_le, nat_lt, not}
 use Rattle.std.specs.Fn.{iterate}
 use Rattle.std.proofs.lemmas.Bool.{cond_both, ne_eqb, eq-eqb, false≢true}
 use Rattle.std.proofs.lemmas.Bool.Decides.{nat_tests}
@@ -14,7 +14,7 @@ use Rattle.plca_control.specs.declared.ControlIn.{ControlIn}
 use Rattle.plca_control.specs.declared.State.{State}
 use Rattle.plca_control.specs.declared.State.TheVariants.{Disabled, Recover, Resync, Early, Beacon, Syncing, WaitTo, Receive, Commit, Transmit, Burst, Drain}
 use Rattle.plca_control.specs.State.{ControlState}
-use Rattle.plca_control.specs.ControlTable.{reach, control_row, is_beacon, is_closed_good}
+use Rattle.plca_control.specs.ControlTable.{mine, coord, reach, control_row, is_beacon, is_closed_good}
 use Rattle.plca_control.specs.CalmControl.{calm_ticks, passed, recover_passed, state_uncounted, control_after, IsCalmControl, status_calm_ticks, status_passed, status_after, IsCalmStatus}
 use Rattle.plca_control.specs.declared.StatusState.{StatusState}
 use Rattle.plca_control.specs.declared.StatusState.TheVariants.{Inactive, Active, Hysteresis}
@@ -30,7 +30,7 @@ Acts st row = row.1 ≡ NoCmd → state_uncounted row.0 ≡ state_uncounted st �
 -- the states at the beginning of an opportunity
 abbrev is_reached : State → Bool
 is_reached (Beacon n) = true
-is_reached (Commit n b) = true
+is_reached (Commit c n b) = true
 is_reached Resync = true
 is_reached (WaitTo c n) = true
 is_reached _ = false
@@ -50,10 +50,10 @@ passed_zero Early i = refl
 passed_zero (Beacon n) i = refl
 passed_zero Syncing i = refl
 passed_zero (Receive c) i = refl
-passed_zero (Commit n b) i = refl
-passed_zero (Transmit b) i = refl
-passed_zero (Burst n b) i = refl
-passed_zero Drain i = refl
+passed_zero (Commit c n b) i = refl
+passed_zero (Transmit c b) i = refl
+passed_zero (Burst c n b) i = refl
+passed_zero (Drain c) i = refl
 
 module _ (s : ControlSet) (i : ControlIn) (most : ℕ) where
   abbrev Path : State → ℕ → Type 0
@@ -83,15 +83,15 @@ module _ (s : ControlSet) (i : ControlIn) (most : ℕ) where
 
   next_waits : (c : ℕ) → Acts (WaitTo c 1) (reach s i.ready (c + 1))
   next_waits c =
-      cond_both ((s.id == 0) && nat_le s.count (c + 1)) _ _ (Acts (WaitTo c 1)) (λ _ none e. cc) (λ _.
-      cond_both ((c + 1 == s.id) && i.ready) _ _ (Acts (WaitTo c 1)) (λ _ none e. cc) (λ _.
-      cond_both (nat_lt 0 s.id && nat_le 255 (c + 1)) _ _ (Acts (WaitTo c 1)) (λ _ none e. cc) (λ _ none e.
+      cond_both (coord s && nat_le s.count (c + 1)) _ _ (Acts (WaitTo c 1)) (λ _ none e. cc) (λ _.
+      cond_both (mine s (c + 1) && i.ready) _ _ (Acts (WaitTo c 1)) (λ _ none e. cc) (λ _.
+      cond_both (not (coord s) && nat_le 255 (c + 1)) _ _ (Acts (WaitTo c 1)) (λ _ none e. cc) (λ _ none e.
       let same : c + 1 ≡ c = cc in absurd (omega arith))))
 
   receive_acts : (c : ℕ) → i.crs ≡ false → Acts (Receive c) (control_row s (Receive c) i)
   receive_acts c off = rw off (
-      cond_both (is_beacon i.class && nat_lt 0 s.id) _ _ (Acts (Receive c)) (λ _. reach_acts (Receive c) 0 refl) (λ _.
-      cond_both (is_beacon i.class && (s.id == 0)) _ _ (Acts (Receive c)) (λ _ none e. cc) (λ _. reach_acts (Receive c) (c + 1) refl)))
+      cond_both (is_beacon i.class && not (coord s)) _ _ (Acts (Receive c)) (λ _. reach_acts (Receive c) 0 refl) (λ _.
+      cond_both (is_beacon i.class && coord s) _ _ (Acts (Receive c)) (λ _ none e. cc) (λ _. reach_acts (Receive c) (c + 1) refl)))
 
   -- under carrier the ticks of Recover begin again and again
   restarts : (q : ℕ) → i.crs ≡ true → Path (Recover q) most
@@ -139,14 +139,14 @@ control_path s (WaitTo c n) i most within =
     cond_both i.crs _ _ (Path s i most (WaitTo c n)) (λ on. act s i most (WaitTo c n) (rw on (λ none e. cc))) (λ off. waits s i most c n (grind (arith, nat_tests)) off)
 control_path s (Receive c) i most within =
     cond_both i.crs _ _ (Path s i most (Receive c)) (λ on. rest s i most (Receive c) (rw on refl)) (λ off. act s i most (Receive c) (receive_acts s i most c off))
-control_path s (Commit n b) i most within =
-    act s i most (Commit n b) (cond_both i.begun _ _ (Acts (Commit n b)) (λ _ none e. cc) (λ _. cond_both (n == 1) _ _ (Acts (Commit n b)) (λ _ none e. cc) (λ _ none e. cc)))
-control_path s (Transmit b) i most within =
-    act s i most (Transmit b) (cond_both (is_closed_good i.tx && nat_lt 0 b) _ _ (Acts (Transmit b)) (λ _ none e. cc) (λ _. cond_both (is_closed i.tx) _ _ (Acts (Transmit b)) (λ _ none e. cc) (λ _ none e. cc)))
-control_path s (Burst n b) i most within =
-    act s i most (Burst n b) (cond_both i.begun _ _ (Acts (Burst n b)) (λ _ none e. cc) (λ _. cond_both (n == 1) _ _ (Acts (Burst n b)) (λ _ none e. cc) (λ _ none e. cc)))
-control_path s Drain i most within =
-    cond_both i.crs _ _ (Path s i most Drain) (λ on. rest s i most Drain (rw on refl)) (λ off. act s i most Drain (rw off (reach_acts s i most Drain (s.id + 1) refl)))
+control_path s (Commit c n b) i most within =
+    act s i most (Commit c n b) (cond_both i.begun _ _ (Acts (Commit c n b)) (λ _ none e. cc) (λ _. cond_both (n == 1) _ _ (Acts (Commit c n b)) (λ _ none e. cc) (λ _ none e. cc)))
+control_path s (Transmit c b) i most within =
+    act s i most (Transmit c b) (cond_both (is_closed_good i.tx && nat_lt 0 b) _ _ (Acts (Transmit c b)) (λ _ none e. cc) (λ _. cond_both (is_closed i.tx) _ _ (Acts (Transmit c b)) (λ _ none e. cc) (λ _ none e. cc)))
+control_path s (Burst c n b) i most within =
+    act s i most (Burst c n b) (cond_both i.begun _ _ (Acts (Burst c n b)) (λ _ none e. cc) (λ _. cond_both (n == 1) _ _ (Acts (Burst c n b)) (λ _ none e. cc) (λ _ none e. cc)))
+control_path s (Drain c) i most within =
+    cond_both i.crs _ _ (Path s i most (Drain c)) (λ on. rest s i most (Drain c) (rw on refl)) (λ off. act s i most (Drain c) (rw off (reach_acts s i most (Drain c) (c + 1) refl)))
 
 module _ (s : ControlSet) (st : State) (i : ControlIn) (within : IsTrue (in_range s st)) where
   pub control_calm_for : (most : ℕ) → IsCalmFor (control_after i) (IsCalmControl i) (at s st) most (calm_ticks s st i most)

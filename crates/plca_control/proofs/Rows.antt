@@ -1,5 +1,5 @@
 -- What the rows of the table of control say, one step at a time.
-use Rattle.std.proofs.Common.{◌≡◌, ◌≢◌, ℕ, ◌-◌, ◌<◌, ◌⊎◌, Bool, true, false, refl, inl, inr, rules, ◌∙◌, sym}
+use Rattle.std.proofs.Common.{◌≡◌, ◌≢◌, ℕ, ◌-◌, ◌<◌, ◌⊎◌, Bool, true, false, refl, inl, inr, rules, ◌∙◌, sym, ap}
 use Rattle.std.proofs.lemmas.Bool.Decides.{nat_tests}
 use Rattle.std.proofs.lemmas.Bool.{false≢true}
 use Rattle.t1s_pcs_tx.specs.declared.TxCmd.{TxCmd}
@@ -16,9 +16,9 @@ use Rattle.plca_control.specs.Runs.{is_transmit}
 -- the command is told by the new state
 abbrev pub command_of : State → TxCmd
 command_of (Beacon n) = BeaconCmd
-command_of (Commit n b) = CommitCmd
-command_of (Transmit b) = CommitCmd
-command_of (Burst n b) = CommitCmd
+command_of (Commit c n b) = CommitCmd
+command_of (Transmit c b) = CommitCmd
+command_of (Burst c n b) = CommitCmd
 command_of _ = NoCmd
 
 reach_command : (s : ControlSet) (ready : Bool) (c : ℕ) → (reach s ready c).1 ≡ command_of (reach s ready c).0
@@ -47,9 +47,18 @@ pub not_good : (r : TxReport) → is_closed r ≡ false → is_closed_good r ≡
 not_good _ h = search rules
 
 module _ (s : ControlSet) (i : ControlIn) where
-  -- an opportunity begins with a frame that is ready, for 288 ticks
+  -- the commit of an opportunity that begins, for 288 ticks
+  abbrev BeginsOwn : State → Type 0
+  BeginsOwn (Commit c n b) = (n ≡ 288) × (b ≡ s.burst)
+  BeginsOwn _ = ⊥
+
+  -- an opportunity begins with a frame that is ready
   abbrev FromAway : State → Type 0
-  FromAway st = (is_own st ≡ false) ⊎ ((i.ready ≡ true) × (st ≡ Commit 288 s.burst))
+  FromAway st = (is_own st ≡ false) ⊎ ((i.ready ≡ true) × BeginsOwn st)
+
+  commit_of_own : (st : State) → BeginsOwn st → (c : ℕ) × (st ≡ Commit c 288 s.burst)
+  commit_of_own (Commit c n b) begins = (c, ap (λ m. Commit c m b) begins.0 ∙ ap (Commit c 288) begins.1)
+  commit_of_own _ begins = absurd begins
 
   reach_next : (c : ℕ) → FromAway (reach s i.ready c).0
   reach_next c = search (rules, nat_tests)
@@ -57,8 +66,11 @@ module _ (s : ControlSet) (i : ControlIn) where
   away_next : (st : State) → is_own st ≡ false → FromAway (control_row s st i).0
   away_next _ away = search (rules, nat_tests, reach_next)
 
-  pub own_from : (st : State) → is_own st ≡ false → is_own (control_row s st i).0 ≡ true → (i.ready ≡ true) × ((control_row s st i).0 ≡ Commit 288 s.burst)
-  own_from st away own = elim (away_next st away) [ inl still ↦ absurd (false≢true (sym still ∙ own)) | inr begins ↦ begins ]
+  pub own_from : (st : State) → is_own st ≡ false → is_own (control_row s st i).0 ≡ true → (i.ready ≡ true) × ((c : ℕ) × ((control_row s st i).0 ≡ Commit c 288 s.burst))
+  own_from st away own = elim (away_next st away) [
+    | inl still ↦ absurd (false≢true (sym still ∙ own))
+    | inr begins ↦ (begins.0, commit_of_own (control_row s st i).0 begins.1)
+  ]
 
   reach_beacon : (c n : ℕ) → (reach s i.ready c).0 ≡ Beacon n → n ≡ 20
   reach_beacon c n e = search (rules, nat_tests)
@@ -71,17 +83,17 @@ module _ (s : ControlSet) (i : ControlIn) where
   pub beacon_waits : (n : ℕ) → 1 < n → (control_row s (Beacon n) i).0 ≡ Beacon (n - 1)
   beacon_waits n h = search (rules, nat_tests)
 
-  pub commit_waits : (b n : ℕ) → i.begun ≡ false → 1 < n → (control_row s (Commit n b) i).0 ≡ Commit (n - 1) b
-  commit_waits b n e h = search (rules, nat_tests)
+  pub commit_waits : (c b n : ℕ) → i.begun ≡ false → 1 < n → (control_row s (Commit c n b) i).0 ≡ Commit c (n - 1) b
+  commit_waits c b n e h = search (rules, nat_tests)
 
-  pub burst_waits : (b n : ℕ) → i.begun ≡ false → 1 < n → (control_row s (Burst n b) i).0 ≡ Burst (n - 1) b
-  burst_waits b n e h = search (rules, nat_tests)
+  pub burst_waits : (c b n : ℕ) → i.begun ≡ false → 1 < n → (control_row s (Burst c n b) i).0 ≡ Burst c (n - 1) b
+  burst_waits c b n e h = search (rules, nat_tests)
 
-  pub commit_ends : (b : ℕ) → i.begun ≡ false → is_own (control_row s (Commit 1 b) i).0 ≡ false
-  commit_ends b e = search rules
+  pub commit_ends : (c b : ℕ) → i.begun ≡ false → is_own (control_row s (Commit c 1 b) i).0 ≡ false
+  commit_ends c b e = search rules
 
-  pub burst_ends : (b : ℕ) → i.begun ≡ false → is_own (control_row s (Burst 1 b) i).0 ≡ false
-  burst_ends b e = search rules
+  pub burst_ends : (c b : ℕ) → i.begun ≡ false → is_own (control_row s (Burst c 1 b) i).0 ≡ false
+  burst_ends c b e = search rules
 
   pub begun_transmits : (st : State) → is_own st ≡ true → is_transmit st ≡ false → i.begun ≡ true → is_transmit (control_row s st i).0 ≡ true
   begun_transmits _ own waits begun = search rules
@@ -89,8 +101,9 @@ module _ (s : ControlSet) (i : ControlIn) where
   pub transmit_stays : (st : State) → is_transmit st ≡ true → is_closed i.tx ≡ false → is_transmit (control_row s st i).0 ≡ true
   transmit_stays _ sends open_piece = let bad = not_good i.tx open_piece in search rules
 
-  pub closed_pauses : (st : State) → is_transmit st ≡ true → is_closed i.tx ≡ true → is_own (control_row s st i).0 ≡ true → (b : ℕ) × ((control_row s st i).0 ≡ Burst 128 b)
-  closed_pauses (Transmit b) sends closed own = (b - 1, search (rules, nat_tests))
+  pub closed_pauses : (st : State) → is_transmit st ≡ true → is_closed i.tx ≡ true → is_own (control_row s st i).0 ≡ true
+      → (c : ℕ) × (b : ℕ) × ((control_row s st i).0 ≡ Burst c 128 b)
+  closed_pauses (Transmit c b) sends closed own = (c, b - 1, search (rules, nat_tests))
   closed_pauses _ sends closed own = absurd (cc)
 
 pub transmit_own : (st : State) → is_transmit st ≡ true → is_own st ≡ true

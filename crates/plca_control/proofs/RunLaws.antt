@@ -42,7 +42,7 @@ module _ (s : ControlSet) (given : ℕ → ControlIn) where
   found_not_own (suc t) begins = rw (found-suc t) (begins.before t (omega arith))
 
   -- the tick in which `own` begins
-  begins_so : (t : ℕ) → OwnBegins s given t → ((given t).ready ≡ true) × (left t ≡ Commit 288 (state_at s given t).set.burst)
+  begins_so : (t : ℕ) → OwnBegins s given t → ((given t).ready ≡ true) × ((c : ℕ) × (left t ≡ Commit c 288 (state_at s given t).set.burst))
   begins_so t begins = own_from (state_at s given t).set (given t) (found t) (found_not_own t begins) begins.own
 
   pub begins_ready : (t : ℕ) → OwnBegins s given t → (given t).ready ≡ true
@@ -91,15 +91,16 @@ module _ (s : ControlSet) (given : ℕ → ControlIn) where
       (k < 288 → (transmits_at s given (t + k) ≡ false) × Holds s given (t + k)) × (k ≡ 288 → own_at s given (t + k) ≡ false)
   commit_until_begun t begins =
       let b : ℕ = (state_at s given t).set.burst in
-      until_begun (λ n. Commit n b) (λ n. refl) (λ n. refl) (λ set i n quiet more. commit_waits set i b n quiet more) (λ set i quiet. commit_ends set i b quiet) t 288 (omega arith) (begins_so t begins).1
+      let (c, e) = (begins_so t begins).1 in
+      until_begun (λ n. Commit c n b) (λ n. refl) (λ n. refl) (λ set i n quiet more. commit_waits set i c b n quiet more) (λ set i quiet. commit_ends set i c b quiet) t 288 (omega arith) e
 
   pub pause_until_begun : (t : ℕ) → transmits_at s given t ≡ true → is_closed (given (t + 1)).tx ≡ true → own_at s given (t + 1) ≡ true → (k : ℕ) → NoneBegun given (t + 1) (t + 1 + k) →
       (k < 128 → (transmits_at s given (t + 1 + k) ≡ false) × Holds s given (t + 1 + k)) × (k ≡ 128 → own_at s given (t + 1 + k) ≡ false)
   pause_until_begun t sends closed own =
       let on : t + 1 ≡ suc t = omega arith in
       let sent : is_transmit (found (t + 1)) ≡ true = rw (on, found-suc t) sends in
-      let (b, e) = closed_pauses (state_at s given (t + 1)).set (given (t + 1)) (found (t + 1)) sent closed own in
-      until_begun (λ n. Burst n b) (λ n. refl) (λ n. refl) (λ set i n quiet more. burst_waits set i b n quiet more) (λ set i quiet. burst_ends set i b quiet) (t + 1) 128 (omega arith) e
+      let (c, b, e) = closed_pauses (state_at s given (t + 1)).set (given (t + 1)) (found (t + 1)) sent closed own in
+      until_begun (λ n. Burst c n b) (λ n. refl) (λ n. refl) (λ set i n quiet more. burst_waits set i c b n quiet more) (λ set i quiet. burst_ends set i c b quiet) (t + 1) 128 (omega arith) e
 
   pub transmits_once_begun : (t : ℕ) → own_at s given t ≡ true → transmits_at s given t ≡ false → (given (t + 1)).begun ≡ true → transmits_at s given (t + 1) ≡ true
   transmits_once_begun t own waiting begun =

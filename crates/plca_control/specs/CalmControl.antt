@@ -40,10 +40,10 @@ calm_ticks s (Beacon n) i most = 0
 calm_ticks s Syncing i most = if i.crs then most else 0
 calm_ticks s (WaitTo c n) i most = if i.crs then 0 else min (n - 1) most
 calm_ticks s (Receive c) i most = if i.crs then most else 0
-calm_ticks s (Commit n b) i most = 0
-calm_ticks s (Transmit b) i most = 0
-calm_ticks s (Burst n b) i most = 0
-calm_ticks s Drain i most = if i.crs then most else 0
+calm_ticks s (Commit c n b) i most = 0
+calm_ticks s (Transmit c b) i most = 0
+calm_ticks s (Burst c n b) i most = 0
+calm_ticks s (Drain c) i most = if i.crs then most else 0
 
 -- the ticks of Recover after n calm ticks, by the carrier: the first one under carrier lets them begin again
 abbrev pub recover_passed : ℕ → Bool → ℕ → ℕ

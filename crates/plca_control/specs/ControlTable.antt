@@ -1,7 +1,8 @@
 -- The table of PLCA control (IEEE Std 802.3 148.4.4): its start, its rows in order, and what it gives out.
 -- In each state the first row whose condition holds decides. A number in a state is a count of ticks, of
 -- the opportunity (`c`), or of the further frames that a burst may still have (`b`).
-use Rattle.std.specs.Prelude.{ℕ, ◌+◌, ◌-◌, ◌*◌, Bool, true, false, ◌&&◌, nat_le, nat_lt, ◌==◌, if◌then◌else◌}
+use Rattle.std.specs.Prelude.{ℕ, ◌+◌, ◌-◌, ◌*◌, Bool, true, false, not, ◌&&◌, nat_le, nat_lt, ◌==◌, if◌then◌else◌, List, [], ◌∷◌}
+use Rattle.t1s_base.specs.NodeIds.{has_id}
 use Rattle.t1s_symbols.specs.declared.Class.{Class}
 use Rattle.t1s_symbols.specs.declared.Class.TheVariants.{None as Unread, Beacon as BeaconHeard, Run as RunHeard, Other as OtherHeard}
 use Rattle.t1s_pcs_tx.specs.declared.TxCmd.{TxCmd}
@@ -30,19 +31,32 @@ is_closed_good Leading = false
 is_closed_good Framing = false
 is_closed_good (Closed good) = good
 
--- the state in which control starts: ID 255 takes no part, ID 0 gives the beacons, all others follow
+-- the ID is one of the node's own
+abbrev pub mine : ControlSet → ℕ → Bool
+mine s c = has_id s.ids c
+
+-- the node gives the beacons: ID 0 is one of its own
+abbrev pub coord : ControlSet → Bool
+coord s = mine s 0
+
+-- the node takes no part: its first ID is 255
+abbrev pub is_out : List ℕ → Bool
+is_out [] = false
+is_out (id ∷ further) = id == 255
+
+-- the state in which control starts
 abbrev pub control_start : ControlSet → ControlState
 control_start s = record {
   set = s;
-  state = if s.id == 255 then Disabled else (if s.id == 0 then Recover 0 else Resync);
+  state = if is_out s.ids then Disabled else (if coord s then Recover 0 else Resync);
 }
 
 -- the instant at which the opportunity of ID c begins
 abbrev pub reach : ControlSet → Bool → ℕ → State × TxCmd
 reach s ready c =
-    if (s.id == 0) && nat_le s.count c then (Beacon 20, BeaconCmd)
-    else (if (c == s.id) && ready then (Commit 288 s.burst, CommitCmd)
-    else (if nat_lt 0 s.id && nat_le 255 c then (Resync, NoCmd)
+    if coord s && nat_le s.count c then (Beacon 20, BeaconCmd)
+    else (if mine s c && ready then (Commit c 288 s.burst, CommitCmd)
+    else (if not (coord s) && nat_le 255 c then (Resync, NoCmd)
     else (WaitTo c s.to, NoCmd)))
 
 -- the rows: the new state and the command
@@ -71,24 +85,24 @@ control_row s (WaitTo c n) i =
     else (WaitTo c (n - 1), NoCmd))
 control_row s (Receive c) i =
     if i.crs then (Receive c, NoCmd)
-    else (if is_beacon i.class && nat_lt 0 s.id then reach s i.ready 0
-    else (if is_beacon i.class && (s.id == 0) then (Recover 0, NoCmd)
+    else (if is_beacon i.class && not (coord s) then reach s i.ready 0
+    else (if is_beacon i.class && coord s then (Recover 0, NoCmd)
     else reach s i.ready (c + 1)))
-control_row s (Commit n b) i =
-    if i.begun then (Transmit b, CommitCmd)
-    else (if n == 1 then (Drain, NoCmd)
-    else (Commit (n - 1) b, CommitCmd))
-control_row s (Transmit b) i =
-    if is_closed_good i.tx && nat_lt 0 b then (Burst 128 (b - 1), CommitCmd)
-    else (if is_closed i.tx then (Drain, NoCmd)
-    else (Transmit b, CommitCmd))
-control_row s (Burst n b) i =
-    if i.begun then (Transmit b, CommitCmd)
-    else (if n == 1 then (Drain, NoCmd)
-    else (Burst (n - 1) b, CommitCmd))
-control_row s Drain i =
-    if i.crs then (Drain, NoCmd)
-    else reach s i.ready (s.id + 1)
+control_row s (Commit c n b) i =
+    if i.begun then (Transmit c b, CommitCmd)
+    else (if n == 1 then (Drain c, NoCmd)
+    else (Commit c (n - 1) b, CommitCmd))
+control_row s (Transmit c b) i =
+    if is_closed_good i.tx && nat_lt 0 b then (Burst c 128 (b - 1), CommitCmd)
+    else (if is_closed i.tx then (Drain c, NoCmd)
+    else (Transmit c b, CommitCmd))
+control_row s (Burst c n b) i =
+    if i.begun then (Transmit c b, CommitCmd)
+    else (if n == 1 then (Drain c, NoCmd)
+    else (Burst c (n - 1) b, CommitCmd))
+control_row s (Drain c) i =
+    if i.crs then (Drain c, NoCmd)
+    else reach s i.ready (c + 1)
 
 -- control takes part in the cycle of opportunities
 abbrev pub is_active : State → Bool
@@ -100,12 +114,12 @@ is_active (Beacon n) = true
 is_active Syncing = true
 is_active (WaitTo c n) = true
 is_active (Receive c) = true
-is_active (Commit n b) = true
-is_active (Transmit b) = true
-is_active (Burst n b) = true
-is_active Drain = true
+is_active (Commit c n b) = true
+is_active (Transmit c b) = true
+is_active (Burst c n b) = true
+is_active (Drain c) = true
 
--- the node holds its own opportunity
+-- the node holds an opportunity of its own
 abbrev pub is_own : State → Bool
 is_own Disabled = false
 is_own (Recover q) = false
@@ -115,10 +129,10 @@ is_own (Beacon n) = false
 is_own Syncing = false
 is_own (WaitTo c n) = false
 is_own (Receive c) = false
-is_own (Commit n b) = true
-is_own (Transmit b) = true
-is_own (Burst n b) = true
-is_own Drain = false
+is_own (Commit c n b) = true
+is_own (Transmit c b) = true
+is_own (Burst c n b) = true
+is_own (Drain c) = false
 
 -- one step: the row, and `active` and `own` of the new state
 abbrev pub control_step : ControlState → ControlIn → ControlState × ControlOut

@@ -26,10 +26,10 @@ state_in_range s (Beacon n) = nat_le 1 n && nat_le n 20
 state_in_range s Syncing = true
 state_in_range s (WaitTo c n) = nat_le c 254 && nat_le 1 n && nat_le n s.to
 state_in_range s (Receive c) = nat_le c 254
-state_in_range s (Commit n b) = nat_le 1 n && nat_le n 288 && nat_le b s.burst
-state_in_range s (Transmit b) = nat_le b s.burst
-state_in_range s (Burst n b) = nat_le 1 n && nat_le n 128 && nat_le b s.burst
-state_in_range s Drain = true
+state_in_range s (Commit c n b) = nat_le 1 n && nat_le n 288 && nat_le b s.burst
+state_in_range s (Transmit c b) = nat_le b s.burst
+state_in_range s (Burst c n b) = nat_le 1 n && nat_le n 128 && nat_le b s.burst
+state_in_range s (Drain c) = true
 
 abbrev pub in_range : ControlSet → State → Bool
 in_range s state = set_in_range s && state_in_range s state

@@ -28,7 +28,7 @@ own_at s given t = (out_at s given t).own
 
 -- tick t leaves it in Transmit
 abbrev pub is_transmit : State → Bool
-is_transmit (Transmit b) = true
+is_transmit (Transmit c b) = true
 is_transmit _ = false
 
 abbrev pub transmits_at : ControlSet → (ℕ → ControlIn) → ℕ → Bool

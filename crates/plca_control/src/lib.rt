@@ -6,15 +6,17 @@
 //! `specs/StatusTable.antt`, the ranges of their counts in `specs/Ranges.antt`.
 #![tactic(auto)]
 
-ghost use Rattle.std.specs.Prelude.{◌≡◌, ℕ, ◌+◌, ◌≤◌, ◌-◌, ◌*◌, IsTrue};
+ghost use Rattle.std.specs.Prelude.{◌≡◌, ℕ, ◌+◌, ◌≤◌, ◌-◌, ◌*◌, true, IsTrue};
 ghost use Rattle.std.specs.Fn.{iterate};
+ghost use Rattle.t1s_base.specs.NodeIds.{IsIds};
 ghost use Rattle.t1s_symbols.specs.CalmSteps.{AreCalm, IsCalmFor};
 ghost use Rattle.plca_control.specs.CalmControl.{calm_ticks, passed, control_after, IsCalmControl, status_calm_ticks, status_passed, status_after, IsCalmStatus};
-ghost use Rattle.plca_control.specs.ControlTable.{reach, control_row, control_start, control_step, is_active, is_own};
+ghost use Rattle.plca_control.specs.ControlTable.{mine, reach, control_row, control_start, control_step, is_active, is_own};
 ghost use Rattle.plca_control.specs.Ranges.{IsControlSet, in_range, set_in_range, status_in_range};
 ghost use Rattle.plca_control.specs.StatusTable.{status_is_ok, status_start, status_step};
 
 use std::marker::Model;
+use t1s_base::Ids;
 use t1s_pcs_tx::{TxCmd, TxReport};
 use t1s_symbols::Class;
 
@@ -23,10 +25,10 @@ pub mod laws;
 mod tests;
 
 /// What a node's control is set to.
-#[derive(Clone, Copy, PartialEq, Eq, Debug)]
+#[derive(Clone, Copy)]
 pub struct ControlSet {
-    /// The node's ID: 0 gives the beacons, 255 takes no part.
-    pub id: u8,
+    /// The node's IDs. A node that has ID 0 gives the beacons; one whose first ID is 255 takes no part.
+    pub ids: Ids,
     /// The number of transmit opportunities in a cycle, 1 to 254.
     pub count: u8,
     /// The length of a transmit opportunity that nobody takes, 16 to 255 ticks.
@@ -57,7 +59,7 @@ pub struct ControlOut {
     pub cmd: TxCmd,
     /// The node takes part in the cycle of opportunities.
     pub active: bool,
-    /// The node holds its own opportunity.
+    /// The node holds an opportunity of its own.
     pub own: bool,
 }
 
@@ -76,6 +78,9 @@ const RECOVER_OPPORTUNITIES: u32 = 258;
 /// From this ID on there is no opportunity.
 const NO_OPPORTUNITY: u16 = 255;
 
+/// A node with this first ID takes no part.
+const NO_PART: u8 = 255;
+
 /// How long the status stays OK once control has stopped taking part, in ticks.
 const HYSTERESIS_TICKS: u32 = 130090;
 
@@ -84,7 +89,7 @@ const HYSTERESIS_TICKS: u32 = 130090;
 enum State {
     /// Takes no part.
     Disabled,
-    /// The node of ID 0 has heard silence for so many ticks.
+    /// A node that gives the beacons has heard silence for so many ticks.
     Recover(u32),
     /// Waits for carrier.
     Resync,
@@ -98,14 +103,14 @@ enum State {
     WaitTo(u8, u8),
     /// In the opportunity of this ID, which a node has taken.
     Receive(u8),
-    /// Has taken its own opportunity: ticks left for the frame to begin, and further frames.
-    Commit(u16, u8),
-    /// Its frame goes out: further frames.
-    Transmit(u8),
-    /// A further frame may follow: ticks left for it to begin, and further frames after it.
-    Burst(u8, u8),
-    /// Waits for the end of its own carrier.
-    Drain,
+    /// Has taken its own opportunity of this ID: ticks left for the frame to begin, and further frames.
+    Commit(u8, u16, u8),
+    /// Its frame goes out in the opportunity of this ID: further frames.
+    Transmit(u8, u8),
+    /// A further frame may follow in the opportunity of this ID: ticks left for it to begin, and further frames after it.
+    Burst(u8, u8, u8),
+    /// Waits for the end of its own carrier in the opportunity of this ID.
+    Drain(u8),
 }
 
 /// PLCA control of one node.
@@ -130,17 +135,31 @@ impl Model for Control {
     ghost inverse = { λ c. record { set = c.set; state = c.state } };
 }
 
+/// Whether an ID is one of the node's own.
+fn is_mine(set: &ControlSet, c: u16) -> bool
+    requires { IsIds set.now.ids }
+    ensures answer { result ≡ mine set.now c }
+    ensures octet { result ≡ true → c ≤ 255 }
+{
+    match u8::try_from(c) {
+        Ok(id) => set.ids.has(id),
+        Err(_) => false,
+    }
+}
+
 /// The instant at which the opportunity of ID `c` begins.
 fn reach(set: &ControlSet, ready: bool, c: u16) -> (State, TxCmd)
     requires { IsTrue (set_in_range set.now) }
     ensures row { result ≡ reach set.now ready c }
     ensures ranges { IsTrue (in_range set.now result.0) }
 {
-    if set.id == 0 && c >= u16::from(set.count) {
+    let gives_beacons = set.ids.has(0);
+    if gives_beacons && c >= u16::from(set.count) {
         (State::Beacon(BEACON_TICKS), TxCmd::Beacon)
-    } else if c == u16::from(set.id) && ready {
-        (State::Commit(COMMIT_TICKS, set.burst), TxCmd::Commit)
-    } else if set.id > 0 && c >= NO_OPPORTUNITY {
+    } else if is_mine(set, c) && ready {
+        let own = State::Commit(c as u8, COMMIT_TICKS, set.burst);
+        (own, TxCmd::Commit)
+    } else if !gives_beacons && c >= NO_OPPORTUNITY {
         (State::Resync, TxCmd::None)
     } else {
         (State::WaitTo(c as u8, set.to), TxCmd::None)
@@ -196,50 +215,50 @@ fn receive(set: &ControlSet, c: u8, inp: ControlIn) -> (State, TxCmd)
 {
     match (inp.crs, inp.class) {
         (true, _) => (State::Receive(c), TxCmd::None),
-        (false, Class::Beacon) if set.id > 0 => reach(set, inp.ready, 0),
-        (false, Class::Beacon) => (State::Recover(0), TxCmd::None),
+        (false, Class::Beacon) if set.ids.has(0) => (State::Recover(0), TxCmd::None),
+        (false, Class::Beacon) => reach(set, inp.ready, 0),
         (false, _) => reach(set, inp.ready, u16::from(c) + 1),
     }
 }
 
-/// The row of `Commit(n, b)`.
-fn commit(set: &ControlSet, n: u16, b: u8, inp: ControlIn) -> (State, TxCmd)
-    requires { IsTrue (in_range set.now (State.Commit n b)) }
-    ensures row { result ≡ control_row set.now (State.Commit n b) inp }
+/// The row of `Commit(c, n, b)`.
+fn commit(set: &ControlSet, c: u8, n: u16, b: u8, inp: ControlIn) -> (State, TxCmd)
+    requires { IsTrue (in_range set.now (State.Commit c n b)) }
+    ensures row { result ≡ control_row set.now (State.Commit c n b) inp }
     ensures ranges { IsTrue (in_range set.now result.0) }
 {
     match (inp.begun, n) {
-        (true, _) => (State::Transmit(b), TxCmd::Commit),
-        (false, 1) => (State::Drain, TxCmd::None),
-        (false, _) => (State::Commit(n - 1, b), TxCmd::Commit),
+        (true, _) => (State::Transmit(c, b), TxCmd::Commit),
+        (false, 1) => (State::Drain(c), TxCmd::None),
+        (false, _) => (State::Commit(c, n - 1, b), TxCmd::Commit),
     }
 }
 
-/// The row of `Transmit(b)`.
-fn transmit(set: &ControlSet, b: u8, inp: ControlIn) -> (State, TxCmd)
-    requires { IsTrue (in_range set.now (State.Transmit b)) }
-    ensures row { result ≡ control_row set.now (State.Transmit b) inp }
+/// The row of `Transmit(c, b)`.
+fn transmit(set: &ControlSet, c: u8, b: u8, inp: ControlIn) -> (State, TxCmd)
+    requires { IsTrue (in_range set.now (State.Transmit c b)) }
+    ensures row { result ≡ control_row set.now (State.Transmit c b) inp }
     ensures ranges { IsTrue (in_range set.now result.0) }
 {
     match inp.tx {
         TxReport::Closed { good } if good && b > 0 => {
-            (State::Burst(BURST_TICKS, b - 1), TxCmd::Commit)
+            (State::Burst(c, BURST_TICKS, b - 1), TxCmd::Commit)
         }
-        TxReport::Closed { good: _ } => (State::Drain, TxCmd::None),
-        _ => (State::Transmit(b), TxCmd::Commit),
+        TxReport::Closed { good: _ } => (State::Drain(c), TxCmd::None),
+        _ => (State::Transmit(c, b), TxCmd::Commit),
     }
 }
 
-/// The row of `Burst(n, b)`.
-fn burst(set: &ControlSet, n: u8, b: u8, inp: ControlIn) -> (State, TxCmd)
-    requires { IsTrue (in_range set.now (State.Burst n b)) }
-    ensures row { result ≡ control_row set.now (State.Burst n b) inp }
+/// The row of `Burst(c, n, b)`.
+fn burst(set: &ControlSet, c: u8, n: u8, b: u8, inp: ControlIn) -> (State, TxCmd)
+    requires { IsTrue (in_range set.now (State.Burst c n b)) }
+    ensures row { result ≡ control_row set.now (State.Burst c n b) inp }
     ensures ranges { IsTrue (in_range set.now result.0) }
 {
     match (inp.begun, n) {
-        (true, _) => (State::Transmit(b), TxCmd::Commit),
-        (false, 1) => (State::Drain, TxCmd::None),
-        (false, _) => (State::Burst(n - 1, b), TxCmd::Commit),
+        (true, _) => (State::Transmit(c, b), TxCmd::Commit),
+        (false, 1) => (State::Drain(c), TxCmd::None),
+        (false, _) => (State::Burst(c, n - 1, b), TxCmd::Commit),
     }
 }
 
@@ -261,11 +280,11 @@ fn row(set: &ControlSet, state: State, inp: ControlIn) -> (State, TxCmd)
         State::Syncing => reach(set, inp.ready, 0),
         State::WaitTo(c, n) => wait_to(set, c, n, inp),
         State::Receive(c) => receive(set, c, inp),
-        State::Commit(n, b) => commit(set, n, b, inp),
-        State::Transmit(b) => transmit(set, b, inp),
-        State::Burst(n, b) => burst(set, n, b, inp),
-        State::Drain if inp.crs => (State::Drain, TxCmd::None),
-        State::Drain => reach(set, inp.ready, u16::from(set.id) + 1),
+        State::Commit(c, n, b) => commit(set, c, n, b, inp),
+        State::Transmit(c, b) => transmit(set, c, b, inp),
+        State::Burst(c, n, b) => burst(set, c, n, b, inp),
+        State::Drain(c) if inp.crs => (State::Drain(c), TxCmd::None),
+        State::Drain(c) => reach(set, inp.ready, u16::from(c) + 1),
     }
 }
 
@@ -278,7 +297,7 @@ fn calm_ticks(set: &ControlSet, state: State, inp: ControlIn, most: u64) -> u64
         State::Disabled => most,
         State::Recover(_) if inp.crs => most,
         State::Recover(q) => u64::from(RECOVER_OPPORTUNITIES * u32::from(set.to) - q),
-        State::Early | State::Syncing | State::Receive(_) | State::Drain if inp.crs => most,
+        State::Early | State::Syncing | State::Receive(_) | State::Drain(_) if inp.crs => most,
         State::Resync if !inp.crs => most,
         State::WaitTo(_, n) if !inp.crs => u64::from(n - 1),
         _ => 0,
@@ -302,16 +321,16 @@ fn passed(set: &ControlSet, state: State, inp: ControlIn, n: u64) -> State
 }
 
 impl Control {
-    /// Control at the start of its node: disabled for ID 255, recovering for ID 0, and without a cycle
-    /// to follow for each other ID.
+    /// Control at the start of its node: disabled where the first ID is 255, else recovering where ID 0 is one of its own,
+    /// else without a cycle to follow.
     pub fn start(set: ControlSet) -> Control
         requires { IsControlSet set }
         ensures start { result ≡ control_start set }
         ensures ranges { IsTrue (in_range result.set result.state) }
     {
-        let state = match set.id {
-            255 => State::Disabled,
-            0 => State::Recover(0),
+        let state = match set.ids.get(0) {
+            Some(NO_PART) => State::Disabled,
+            _ if set.ids.has(0) => State::Recover(0),
             _ => State::Resync,
         };
         Control { set, state }
@@ -328,7 +347,7 @@ impl Control {
             _ => true,
         };
         let own = match state {
-            State::Commit(_, _) | State::Transmit(_) | State::Burst(_, _) => true,
+            State::Commit(_, _, _) | State::Transmit(_, _) | State::Burst(_, _, _) => true,
             _ => false,
         };
         (

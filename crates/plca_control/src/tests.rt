@@ -4,6 +4,7 @@ ghost use Rattle.std.specs.Prelude.{◌≡◌};
 
 use super::{Control, ControlIn, ControlOut, ControlSet, State, Status};
 use std::process::Abort;
+use t1s_base::Ids;
 use t1s_pcs_tx::{TxCmd, TxReport};
 use t1s_symbols::Class;
 
@@ -40,6 +41,11 @@ const CLOSED: ControlIn = ControlIn {
     ..SILENCE
 };
 
+const BAD: ControlIn = ControlIn {
+    tx: TxReport::Closed { good: false },
+    ..SILENCE
+};
+
 const OUTSIDE: ControlOut = ControlOut {
     cmd: TxCmd::None,
     active: false,
@@ -68,20 +74,20 @@ const OWNER: ControlOut = ControlOut {
 type Stretch = (ControlIn, u32, ControlOut);
 
 /// A cycle of 3 opportunities of 16 ticks, with bursts of 2 further frames.
-fn set_of(id: u8) -> ControlSet
+fn set_of(ids: Ids) -> ControlSet
     ensures count { result.count ≡ 3 }
     ensures to { result.to ≡ 16 }
 {
     ControlSet {
-        id,
+        ids,
         count: 3,
         to: 16,
         burst: 2,
     }
 }
 
-fn check(rt: &impl Abort, id: u8, stretches: &[Stretch]) {
-    let mut control = Control::start(set_of(id));
+fn check(rt: &impl Abort, ids: Ids, stretches: &[Stretch]) {
+    let mut control = Control::start(set_of(ids));
     for (inp, ticks, want) in stretches {
         for _ in 0..*ticks {
             let (next, out) = control.step(*inp);
@@ -95,7 +101,7 @@ fn check(rt: &impl Abort, id: u8, stretches: &[Stretch]) {
 fn a_disabled_node_takes_no_part(rt: HostRuntime) {
     check(
         &rt,
-        255,
+        Ids::one(255),
         &[
             (SILENCE, 9, OUTSIDE),
             (BEACON_HEARD, 1, OUTSIDE),
@@ -108,7 +114,7 @@ fn a_disabled_node_takes_no_part(rt: HostRuntime) {
 fn a_coordinator_gives_beacons(rt: HostRuntime) {
     check(
         &rt,
-        0,
+        Ids::one(0),
         &[
             (SILENCE, 9, OUTSIDE),
             (CARRIER, 1, OUTSIDE),
@@ -130,7 +136,7 @@ fn a_coordinator_gives_beacons(rt: HostRuntime) {
 fn a_follower_keeps_its_turn(rt: HostRuntime) {
     check(
         &rt,
-        1,
+        Ids::one(1),
         &[
             (SILENCE, 9, OUTSIDE),
             (BEACON_HEARD, 9, OUTSIDE),
@@ -156,17 +162,52 @@ fn a_follower_keeps_its_turn(rt: HostRuntime) {
     );
 }
 
+/// Two IDs.
+fn two(rt: &impl Abort, first: u8, further: u8) -> Ids {
+    let mut ids = Ids::one(first);
+    assert!(rt; ids.add(further).is_ok());
+    ids
+}
+
+#[test]
+fn a_node_takes_the_opportunity_of_each_id(rt: HostRuntime) {
+    check(
+        &rt,
+        two(&rt, 2, 0),
+        &[
+            (SILENCE, 4128, OUTSIDE),
+            (SILENCE, 20, BEACON),
+            (SILENCE, 1, WAITING),
+            (READY, 1, OWNER),
+            (BEGUN, 9, OWNER),
+            (BAD, 1, WAITING),
+            (CARRIER, 4, WAITING),
+            (READY, 16, WAITING),
+            (READY, 1, OWNER),
+            (BEGUN, 9, OWNER),
+            (BAD, 1, WAITING),
+            (CARRIER, 4, WAITING),
+            (READY, 20, BEACON),
+        ],
+    );
+    check(
+        &rt,
+        two(&rt, 255, 0),
+        &[(SILENCE, 4129, OUTSIDE), (BEACON_HEARD, 9, OUTSIDE)],
+    );
+}
+
 #[test]
 fn a_commit_without_a_frame_ends(rt: HostRuntime) {
     let last = Control {
-        set: set_of(1),
-        state: State::Commit(1, 0),
+        set: set_of(Ids::one(1)),
+        state: State::Commit(1, 1, 0),
     };
     let (control, out) = last.step(SILENCE);
-    assert!(rt; matches!(control.state, State::Drain));
+    assert!(rt; matches!(control.state, State::Drain(1)));
     assert!(rt; out == WAITING);
     let (control, out) = last.step(BEGUN);
-    assert!(rt; matches!(control.state, State::Transmit(0)));
+    assert!(rt; matches!(control.state, State::Transmit(1, 0)));
     assert!(rt; out == OWNER);
 }
 
@@ -190,8 +231,8 @@ const MOST: u64 = 5000;
 type Calm = (ControlIn, u64, ControlOut);
 
 /// Passes calm ticks, and then steps once with the same input.
-fn check_calm(rt: &impl Abort, id: u8, stretches: &[Calm]) {
-    let mut control = Control::start(set_of(id));
+fn check_calm(rt: &impl Abort, ids: Ids, stretches: &[Calm]) {
+    let mut control = Control::start(set_of(ids));
     for (inp, ticks, want) in stretches {
         let calm = control.calm_for(*inp, MOST);
         assert!(rt; calm == *ticks);
@@ -203,12 +244,20 @@ fn check_calm(rt: &impl Abort, id: u8, stretches: &[Calm]) {
 
 #[test]
 fn control_acts_after_its_calm_ticks(rt: HostRuntime) {
-    check_calm(&rt, 255, &[(CARRIER, MOST, OUTSIDE)]);
-    check_calm(&rt, 0, &[(SILENCE, 4128, BEACON), (SILENCE, 0, BEACON)]);
-    check_calm(&rt, 0, &[(CARRIER, MOST, OUTSIDE), (SILENCE, 4128, BEACON)]);
+    check_calm(&rt, Ids::one(255), &[(CARRIER, MOST, OUTSIDE)]);
     check_calm(
         &rt,
-        1,
+        Ids::one(0),
+        &[(SILENCE, 4128, BEACON), (SILENCE, 0, BEACON)],
+    );
+    check_calm(
+        &rt,
+        Ids::one(0),
+        &[(CARRIER, MOST, OUTSIDE), (SILENCE, 4128, BEACON)],
+    );
+    check_calm(
+        &rt,
+        Ids::one(1),
         &[
             (SILENCE, MOST, OUTSIDE),
             (CARRIER, 0, OUTSIDE),

@@ -26,15 +26,15 @@ use Rattle.t1s_node.proofs.AnyPlaces.{Past, grown, Before, OpenPiece, first, sec
 use Rattle.t1s_node.proofs.AnyTx.{on_past, with_new, by_part, marked_lasts, marked_on, pops_next}
 use Rattle.t1s_node.proofs.AnyOwn.{Kept, KeptTurn, Stepped, is_open, loud, popped_drop, pushed_some}
 
-module _ (burst : ℕ) (Leaves : ℕ → Queued → Type 0) (b : ℕ) (crs : Bool) (class : Class) (sending : Bool) where
+module _ (burst : ℕ) (Leaves : ℕ → Queued → Type 0) (c b : ℕ) (crs : Bool) (class : Class) (sending : Bool) where
   abbrev Left : Bool → Bool → Bool → Row → Stage → ℕ → List Bool → List ℕ → Past → Type 0
-  Left = Kept burst Leaves b crs class sending
+  Left = Kept burst Leaves c b crs class sending
 
   abbrev Turned : Bool → Bool → Bool → Row → TxTurn → Past → Type 0
-  Turned = KeptTurn burst Leaves b crs class sending
+  Turned = KeptTurn burst Leaves c b crs class sending
 
   abbrev Steps : Bool → Bool → Bool → Row → Past → TxTurn → Type 0
-  Steps = Stepped burst Leaves b crs class sending
+  Steps = Stepped burst Leaves c b crs class sending
 
   -- ---- the MAC has given the frame whole
 

@@ -51,11 +51,11 @@ popped_drop ns all popped x rest h =
     let more : popped < length ns = omega (arith, h.count, h.within) in
     drop_more ns popped 0 more ∙ ap (λ (y : ℕ). y ∷ drop (popped + 1) ns) (popped_is ns all popped x rest h)
 
-module _ (burst : ℕ) (Leaves : ℕ → Queued → Type 0) (b : ℕ) (crs : Bool) (class : Class) (sending : Bool) where
+module _ (burst : ℕ) (Leaves : ℕ → Queued → Type 0) (c b : ℕ) (crs : Bool) (class : Class) (sending : Bool) where
   -- what the core is left as in Transmit, the transmitter's turn and the MAC's row being these
   abbrev pub Kept : Bool → Bool → Bool → Row → Stage → ℕ → List Bool → List ℕ → Past → Type 0
   Kept ended bad hit left stage part past line g =
-      Stands burst Leaves (InTransmit b) left.phase left.queue (deference_step Busy true sending left.starts) stage part past
+      Stands burst Leaves (InTransmit c b) left.phase left.queue (deference_step Busy true sending left.starts) stage part past
       (transmit ended bad (told true true false crs class hit left.out) line).0 (transmit ended bad (told true true false crs class hit left.out) line).1 g
 
   abbrev pub KeptTurn : Bool → Bool → Bool → Row → TxTurn → Past → Type 0
@@ -95,13 +95,13 @@ module _ (burst : ℕ) (Leaves : ℕ → Queued → Type 0) (b : ℕ) (crs : Boo
           by (is_full line) refl
         where
           by : (full : Bool) → is_full line ≡ full
-              → Stands burst Leaves (InTransmit b) (Giving (k + 1) 0 false) q Busy stage s past (Transmit false full) (pushed (Nibble (slice_index ns (k + 1))) line) g
+              → Stands burst Leaves (InTransmit c b) (Giving (k + 1) 0 false) q Busy stage s past (Transmit false full) (pushed (Nibble (slice_index ns (k + 1))) line) g
           by true e =
               spoiled (is_open earlier m before f i stage past g.symbols piece) quarter
               (gives {p = 0} (gives_frame (omega arith) (frame_there q f heads)) (inl (pushed_some (slice_index ns (k + 1)) line)))
           by false e =
               let free : length line < 97 = full_or_room line e in
-              subst (λ (xs : List ℕ). Stands burst Leaves (InTransmit b) (Giving (k + 1) 0 false) q Busy stage s past (Transmit false false) xs g)
+              subst (λ (xs : List ℕ). Stands burst Leaves (InTransmit c b) (Giving (k + 1) 0 false) q Busy stage s past (Transmit false false) xs g)
               (sym (takes line (slice_index ns (k + 1)) free))
               (fed earlier m before owning heads (omega (arith, ahead, three)) (omega arith) quarter more short piece mark fits
               (one_given ns (k + 1) (i + 1) line feeds more)
@@ -130,7 +130,7 @@ module _ (burst : ℕ) (Leaves : ℕ → Queued → Type 0) (b : ℕ) (crs : Boo
             → KeptTurn false false hit left (chosen_turn (choice_after stage past inp line)) (grown g (choice_after stage past inp line).stage 0)
         pop [] feeds room end = let count = feeds.count in absurd (omega (arith, count, end, ahead, low))
         pop (x ∷ rest) feeds room end =
-            pops_next Leaves earlier m before f i stage past g x rest inp (λ (c : Choice) (h : Past). KeptTurn false false hit left (chosen_turn c) h) piece
+            pops_next Leaves earlier m before f i stage past g x rest inp (λ (x : Choice) (h : Past). KeptTurn false false hit left (chosen_turn x) h) piece
             (subst (λ (n : ℕ). Marked Leaves g f i n) end mark) (popped_drop ns (k + 1) (i + 1) x rest feeds) (λ one. leaves one end)
             (λ to after h piece_on mark_on.
             fed_after (i + 1) 0 to after rest h (omega (arith, ahead, end)) (omega arith) piece_on mark_on (one_popped ns (k + 1) (i + 1) x rest feeds) (omega (arith, room)) hit left turn)

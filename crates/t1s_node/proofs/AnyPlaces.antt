@@ -104,36 +104,36 @@ module _ (burst : ℕ) (Leaves : ℕ → Queued → Type 0) where
         → is_away st ≡ true → AtRest path phase q d line → g.symbols ≡ [] → Stands st phase q d Quiet part past path line g
     in_row : {n part : ℕ} {phase : Phase} {q : Queue} {d : Deference} {past : List Bool} {path : State} {line : List ℕ} {g : Past}
         (x : ℕ) → n + part ≡ 4 * x → 1 ≤ n → part ≤ 3 → AtRest path phase q d line → Stands (Beacon n) phase q d Beaconing part past path line g
-    waits : {n b part : ℕ} {st : ControlStage} {phase : Phase} {q : Queue} {d : Deference} {past : List Bool} {g : Past}
-        (earlier : List Piece) (m x : ℕ) → Waits n b st → 1 ≤ n → part ≤ 3 → n + part + 4 * (m + x) ≡ 292 → Gone phase q → Before burst b earlier
+    waits : {c n b part : ℕ} {st : ControlStage} {phase : Phase} {q : Queue} {d : Deference} {past : List Bool} {g : Past}
+        (earlier : List Piece) (m x : ℕ) → Waits c n b st → 1 ≤ n → part ≤ 3 → n + part + 4 * (m + x) ≡ 292 → Gone phase q → Before burst b earlier
         → g.symbols ≡ pieces_symbols earlier ++ replicate m J → Stands st phase q d Committing part past WaitMac [] g
-    opens : {b p part : ℕ} {f : Queued} {st : ControlStage} {q : Queue} {past : List Bool} {line : List ℕ} {g : Past}
-        (earlier : List Piece) (m : ℕ) → Owns b st → Heads q f → p ≤ part → part ≤ 3 → m ≤ 72 → Before burst b earlier
+    opens : {c b p part : ℕ} {f : Queued} {st : ControlStage} {q : Queue} {past : List Bool} {line : List ℕ} {g : Past}
+        (earlier : List Piece) (m : ℕ) → Owns c b st → Heads q f → p ≤ part → part ≤ 3 → m ≤ 72 → Before burst b earlier
         → g.symbols ≡ pieces_symbols earlier ++ replicate m J → Feeds (nibble_list f.frame) 1 0 line
         → Stands st (Giving 0 p false) q Busy Committing part past (Transmit false false) line g
-    fed : {b i s k p : ℕ} {f : Queued} {st : ControlStage} {q : Queue} {stage : Stage} {past : List Bool} {line : List ℕ} {g : Past}
-        (earlier : List Piece) (m : ℕ) (before : List Bool) → Owns b st → Heads q f → 4 * i + s < 4 * k + p → p ≤ 3 → s ≤ 3 → k < count_of f → m ≤ 72
+    fed : {c b i s k p : ℕ} {f : Queued} {st : ControlStage} {q : Queue} {stage : Stage} {past : List Bool} {line : List ℕ} {g : Past}
+        (earlier : List Piece) (m : ℕ) (before : List Bool) → Owns c b st → Heads q f → 4 * i + s < 4 * k + p → p ≤ 3 → s ≤ 3 → k < count_of f → m ≤ 72
         → OpenPiece earlier m before f i stage past g.symbols → Marked Leaves g f i s → Before burst b earlier
         → Feeds (nibble_list f.frame) (k + 1) (i + 1) line → length line ≤ 97
         → Stands st (Giving k p false) q Busy stage s past (Transmit false false) line g
-    given : {b i s : ℕ} {f : Queued} {phase : Phase} {q : Queue} {stage : Stage} {past : List Bool} {line : List ℕ} {g : Past}
+    given : {c b i s : ℕ} {f : Queued} {phase : Phase} {q : Queue} {stage : Stage} {past : List Bool} {line : List ℕ} {g : Past}
         (earlier : List Piece) (m : ℕ) (before : List Bool) → Gone phase q → IsFrame f.frame → s ≤ 3 → m ≤ 72
         → OpenPiece earlier m before f i stage past g.symbols → Marked Leaves g f i s → 3 ≤ i → Before burst b earlier
         → Feeds (nibble_list f.frame) (count_of f) (i + 1) line
-        → Stands (InTransmit b) phase q Busy stage s past (Transmit true false) line g
-    ends : {b s : ℕ} {f : Queued} {phase : Phase} {q : Queue} {past : List Bool} {g : Past}
+        → Stands (InTransmit c b) phase q Busy stage s past (Transmit true false) line g
+    ends : {c b s : ℕ} {f : Queued} {phase : Phase} {q : Queue} {past : List Bool} {g : Past}
         (earlier : List Piece) (m : ℕ) (before : List Bool) → Gone phase q → IsFrame f.frame → s ≤ 3 → m ≤ 72
         → g.symbols ≡ pieces_symbols earlier ++ (open_symbols (m + 2) (scrambled_nibbles before (carried_nibbles f.frame)) ++ T ∷ [])
         → Marked Leaves g f (count_of f) s → Before burst b earlier
-        → Stands (InTransmit b) phase q Busy (ClosingEnd true) s past (Transmit true false) [] g
-    closes : {b s : ℕ} {f : Queued} {phase : Phase} {q : Queue} {past : List Bool} {bad : Bool} {g : Past}
+        → Stands (InTransmit c b) phase q Busy (ClosingEnd true) s past (Transmit true false) [] g
+    closes : {c b s : ℕ} {f : Queued} {phase : Phase} {q : Queue} {past : List Bool} {bad : Bool} {g : Past}
         (earlier : List Piece) (m : ℕ) (before : List Bool) → Gone phase q → IsFrame f.frame → s ≤ 3 → m ≤ 72
         → g.symbols ≡ pieces_symbols earlier ++ piece_symbols (sent_piece (m + 2) before f.frame true)
         → Marked Leaves g f (count_of f + 1) s → Before burst b earlier
-        → Stands (InTransmit b) phase q Busy (ClosingCloser true) s past (Transmit true bad) [] g
-    spoils : {b part : ℕ} {phase : Phase} {q : Queue} {past : List Bool} {ended : Bool} {line : List ℕ} {g : Past}
-        → part ≤ 3 → Works 4 phase q (0 ∷ line) → Stands (InTransmit b) phase q Busy Committing part past (Transmit ended true) line g
-    spoiled : {b s : ℕ} {phase : Phase} {q : Queue} {stage : Stage} {past : List Bool} {ended : Bool} {line : List ℕ} {g : Past}
-        → InPiece stage → s ≤ 3 → Works s phase q line → Stands (InTransmit b) phase q Busy stage s past (Transmit ended true) line g
-    ends_badly : {b s : ℕ} {phase : Phase} {q : Queue} {stage : Stage} {past : List Bool} {ended : Bool} {g : Past}
-        → EndsBadly stage → s ≤ 3 → Gone phase q → Stands (InTransmit b) phase q Busy stage s past (Transmit ended true) [] g
+        → Stands (InTransmit c b) phase q Busy (ClosingCloser true) s past (Transmit true bad) [] g
+    spoils : {c b part : ℕ} {phase : Phase} {q : Queue} {past : List Bool} {ended : Bool} {line : List ℕ} {g : Past}
+        → part ≤ 3 → Works 4 phase q (0 ∷ line) → Stands (InTransmit c b) phase q Busy Committing part past (Transmit ended true) line g
+    spoiled : {c b s : ℕ} {phase : Phase} {q : Queue} {stage : Stage} {past : List Bool} {ended : Bool} {line : List ℕ} {g : Past}
+        → InPiece stage → s ≤ 3 → Works s phase q line → Stands (InTransmit c b) phase q Busy stage s past (Transmit ended true) line g
+    ends_badly : {c b s : ℕ} {phase : Phase} {q : Queue} {stage : Stage} {past : List Bool} {ended : Bool} {g : Past}
+        → EndsBadly stage → s ≤ 3 → Gone phase q → Stands (InTransmit c b) phase q Busy stage s past (Transmit ended true) [] g

@@ -56,12 +56,12 @@ module _ (Leaves : ℕ → Queued → Type 0) (set : ControlSet) (crs : Bool) (c
   -- ---- away
 
   -- the own opportunity begins while a frame is held
-  hold_opens : (f : Queued) (k p a : ℕ) (q : Queue) (left : Row) (part : ℕ) (past : List Bool) (line : List ℕ) (g : Past) → Heads q f → k ≤ 96 → p ≤ 3
+  hold_opens : (c : ℕ) (f : Queued) (k p a : ℕ) (q : Queue) (left : Row) (part : ℕ) (past : List Bool) (line : List ℕ) (g : Past) → Heads q f → k ≤ 96 → p ≤ 3
       → Feeds (nibble_list f.frame) (k + 1) 0 line → g.symbols ≡ [] → SendTurn q f k p a false left
-      → Turns Hold Busy true (record { stage = Quiet; part = part; past = past }) line g (Commit 288 set.burst, CommitCmd) left
+      → Turns Hold Busy true (record { stage = Quiet; part = part; past = past }) line g (Commit c 288 set.burst, CommitCmd) left
   unfolding transmit_step
-  hold_opens f k p a q left part past [] g heads early low feeds none turn = let count = feeds.count in absurd (omega (arith, count))
-  hold_opens f k p a q left part past (x ∷ rest) g heads early low feeds none turn = go left turn
+  hold_opens c f k p a q left part past [] g heads early low feeds none turn = let count = feeds.count in absurd (omega (arith, count))
+  hold_opens c f k p a q left part past (x ∷ rest) g heads early low feeds none turn = go left turn
     where
       less : Feeds (nibble_list f.frame) (k + 1) (0 + 1) rest
       less = one_popped (nibble_list f.frame) (k + 1) 0 x rest feeds
@@ -73,7 +73,7 @@ module _ (Leaves : ℕ → Queued → Type 0) (set : ControlSet) (crs : Bool) (c
       begun_piece = first (ap (λ (ss : List Symbol). ss ++ J ∷ []) none)
 
       go : (left : Row) → SendTurn q f k p a false left
-          → Now (Commit 288 set.burst) left.phase left.queue (deference_step Busy false true left.starts) (Starting 0) 0 past
+          → Now (Commit c 288 set.burst) left.phase left.queue (deference_step Busy false true left.starts) (Starting 0) 0 past
           (data_path_step Hold (told true true false crs class hit left.out) rest).0
           (data_path_step Hold (told true true false crs class hit left.out) rest).1 (grown g (Starting 0) 0)
       go _ (frame_lasts some) =
@@ -81,7 +81,7 @@ module _ (Leaves : ℕ → Queued → Type 0) (set : ControlSet) (crs : Bool) (c
           begun_piece (λ late. absurd (omega (arith, late))) fits less (let count = less.count in omega (arith, count, early))
       go _ (frame_gives three more soon) =
           let room : length rest < 97 = let count = less.count in omega (arith, count, early) in
-          subst (λ (xs : List ℕ). Now (Commit 288 set.burst) (Giving (k + 1) 0 false) q Busy (Starting 0) 0 past (Transmit false false) xs (grown g (Starting 0) 0))
+          subst (λ (xs : List ℕ). Now (Commit c 288 set.burst) (Giving (k + 1) 0 false) q Busy (Starting 0) 0 past (Transmit false false) xs (grown g (Starting 0) 0))
           (sym (takes rest (slice_index (nibble_list f.frame) (k + 1)) room))
           (fed [] 0 past commits heads (omega arith) (omega arith) (omega arith) more (omega arith)
           begun_piece (λ late. absurd (omega (arith, late))) fits (one_given (nibble_list f.frame) (k + 1) 1 rest less more)
@@ -89,11 +89,11 @@ module _ (Leaves : ℕ → Queued → Type 0) (set : ControlSet) (crs : Bool) (c
       go _ (frame_jams three late e) = absurd (cc)
       go _ (frame_sends three all e) = absurd (omega (arith, early, all, (long f heads.frame).0))
 
-  pend_opens : (q : Queue) (a part : ℕ) (phase : Phase) (left : Row) (past : List Bool) (g : Past) → g.symbols ≡ [] → GoneTurn q a false left
-      → Turns Pending Busy (is_sending phase) (record { stage = Quiet; part = part; past = past }) [] g (Commit 288 set.burst, CommitCmd) left
+  pend_opens : (c : ℕ) (q : Queue) (a part : ℕ) (phase : Phase) (left : Row) (past : List Bool) (g : Past) → g.symbols ≡ [] → GoneTurn q a false left
+      → Turns Pending Busy (is_sending phase) (record { stage = Quiet; part = part; past = past }) [] g (Commit c 288 set.burst, CommitCmd) left
   unfolding transmit_step
-  pend_opens q a part phase _ past g none (mac_starts e heads) = absurd (cc)
-  pend_opens q a part phase _ past g none (mac_stays over) =
+  pend_opens c q a part phase _ past g none (mac_starts e heads) = absurd (cc)
+  pend_opens c q a part phase _ past g none (mac_stays over) =
       waits [] 1 0 waits_first (omega arith) (omega arith) refl over (record { few = omega arith; in_range = λ n d lt. absurd (omega (arith, lt)) })
       (ap (λ (ss : List Symbol). ss ++ J ∷ []) none)
 
@@ -105,17 +105,17 @@ module _ (Leaves : ℕ → Queued → Type 0) (set : ControlSet) (crs : Bool) (c
     abbrev pub Tick : ControlStage → Phase → Queue → Deference → ℕ → TxState → State → List ℕ → Past → Type 0
     Tick st phase q d a tx path line g = Turns path d (is_sending phase) tx line g (control_row set st (control_is path tx)) (row_is path phase q d a)
 
-    opens_now : (path : State) (phase : Phase) (q : Queue) (d : Deference) (a part : ℕ) (past : List Bool) (line : List ℕ) (g : Past) → Fit q.frames
+    opens_now : (c : ℕ) (path : State) (phase : Phase) (q : Queue) (d : Deference) (a part : ℕ) (past : List Bool) (line : List ℕ) (g : Past) → Fit q.frames
         → g.symbols ≡ [] → ready path ≡ true → AtRest path phase q d line
-        → Turns path d (is_sending phase) (record { stage = Quiet; part = part; past = past }) line g (Commit 288 set.burst, CommitCmd) (row_is path phase q d a)
-    opens_now _ phase q d a part past _ g fit none e (silent over) = absurd (cc)
-    opens_now _ phase q d a part past _ g fit none e (idle over) = absurd (cc)
-    opens_now _ phase q _ a part past _ g fit none e (delays over) = absurd (cc)
-    opens_now _ phase q _ a part past _ g fit none e (pends over) = pend_opens q a part phase _ past g none (gone_turns phase q a false false drawn over fit)
-    opens_now _ _ q _ a part past line g fit none e (holds {f = f} {k = k} {p = p} heads early low feeds) =
-        hold_opens f k p a q _ part past line g heads early low feeds none
+        → Turns path d (is_sending phase) (record { stage = Quiet; part = part; past = past }) line g (Commit c 288 set.burst, CommitCmd) (row_is path phase q d a)
+    opens_now c _ phase q d a part past _ g fit none e (silent over) = absurd (cc)
+    opens_now c _ phase q d a part past _ g fit none e (idle over) = absurd (cc)
+    opens_now c _ phase q _ a part past _ g fit none e (delays over) = absurd (cc)
+    opens_now c _ phase q _ a part past _ g fit none e (pends over) = pend_opens c q a part phase _ past g none (gone_turns phase q a false false drawn over fit)
+    opens_now c _ _ q _ a part past line g fit none e (holds {f = f} {k = k} {p = p} heads early low feeds) =
+        hold_opens c f k p a q _ part past line g heads early low feeds none
         (send_turns q f k p a false heads low (omega (arith, (long f heads.frame).0, early)))
-    opens_now _ phase q _ a part past _ g fit none e (collides over) = absurd (cc)
+    opens_now c _ phase q _ a part past _ g fit none e (collides over) = absurd (cc)
 
     -- at rest while the opportunity is not the node's own
     rested : (next : ControlStage) (own : Bool) (closed : Bool) (path : State) (phase : Phase) (q : Queue) (d : Deference) (a : ℕ) (line : List ℕ) → own ≡ false
@@ -134,7 +134,7 @@ module _ (Leaves : ℕ → Queued → Type 0) (set : ControlSet) (crs : Bool) (c
             → Turns path d (is_sending phase) (record { stage = Quiet; part = part; past = past }) line g next (row_is path phase q d a)
         go _ (stays {st = to} on) = away on (rested to (is_own to) false path phase q d a line (away_not_own to on) fit h) refl
         go _ row = in_row 5 refl (omega arith) (omega arith) (rested (Beacon 20) false false path phase q d a line refl fit h)
-        go _ (owns some) = opens_now path phase q d a part past line g fit none some h
+        go _ (owns {c = c} some) = opens_now c path phase q d a part past line g fit none some h
 
     pub row_steps : (n x part a : ℕ) (path : State) (phase : Phase) (q : Queue) (d : Deference) (past : List Bool) (line : List ℕ) (g : Past) → Fit q.frames
         → n + part ≡ 4 * x → 1 ≤ n → part ≤ 3 → AtRest path phase q d line → Tick (Beacon n) phase q d a (record { stage = Beaconing; part = part; past = past }) path line g
@@ -156,12 +156,12 @@ module _ (Leaves : ℕ → Queued → Type 0) (set : ControlSet) (crs : Bool) (c
     -- ---- the own opportunity
 
     -- before a frame
-    waits_steps : (b n part m x a : ℕ) (earlier : List Piece) (next : ControlStage) (phase : Phase) (q : Queue) (d : Deference) (past : List Bool) (g : Past) (left : Row)
-        → Owns b next → Waits (n - 1) b next → is_own next ≡ true → is_active next ≡ true
+    waits_steps : (c b n part m x a : ℕ) (earlier : List Piece) (next : ControlStage) (phase : Phase) (q : Queue) (d : Deference) (past : List Bool) (g : Past) (left : Row)
+        → Owns c b next → Waits c (n - 1) b next → is_own next ≡ true → is_active next ≡ true
         → 1 < n → part ≤ 3 → n + part + 4 * (m + x) ≡ 292 → Before set.burst b earlier
         → g.symbols ≡ pieces_symbols earlier ++ replicate m J → (may : Bool) → GoneTurn q a may left
         → Turns WaitMac d (is_sending phase) (record { stage = Committing; part = part; past = past }) [] g (next, CommitCmd) left
-    waits_steps b n part m x a earlier next phase q d past g left own timer is_it is_on more low is fits spelled may turn =
+    waits_steps c b n part m x a earlier next phase q d past g left own timer is_it is_on more low is fits spelled may turn =
         by_part Committing part past (record { cmd = CommitCmd; ended = false; bad = false }) [] g
         (λ (turn : TxTurn) (h : Past). Comes WaitMac d (is_sending phase) false (next, CommitCmd) left turn h) refl low
         (λ less. go m (part + 1) (on_past g) spelled (omega (arith, less)) (omega (arith, is, more)) left turn)
@@ -180,34 +180,34 @@ module _ (Leaves : ℕ → Queued → Type 0) (set : ControlSet) (crs : Bool) (c
         go m' r h spelled few is _ (mac_stays on) = rw is_it (waits earlier m' x timer (omega (arith, more)) few is on fits spelled)
 
     -- its timer ends
-    lapses : (part m x a : ℕ) (phase : Phase) (q : Queue) (d : Deference) (past : List Bool) (g : Past) (left : Row) (may : Bool) → GoneTurn q a may left
+    lapses : (c part m x a : ℕ) (phase : Phase) (q : Queue) (d : Deference) (past : List Bool) (g : Past) (left : Row) (may : Bool) → GoneTurn q a may left
         → part ≤ 3 → 1 + part + 4 * (m + x) ≡ 292
-        → Turns WaitMac d (is_sending phase) (record { stage = Committing; part = part; past = past }) [] g (Drain, NoCmd) left
-    lapses part m x a phase q d past g left may turn low is =
+        → Turns WaitMac d (is_sending phase) (record { stage = Committing; part = part; past = past }) [] g (Drain c, NoCmd) left
+    lapses c part m x a phase q d past g left may turn low is =
         by_part Committing part past (record { cmd = NoCmd; ended = false; bad = false }) [] g
-        (λ (turn : TxTurn) (h : Past). Comes WaitMac d (is_sending phase) false (Drain, NoCmd) left turn h) refl low
+        (λ (turn : TxTurn) (h : Past). Comes WaitMac d (is_sending phase) false (Drain c, NoCmd) left turn h) refl low
         (λ less. absurd (omega (arith, less, is)))
         (λ end. away refl (idle_next true false false crs class hit q a may d false (is_sending phase) left turn) refl)
 
-    pub timer_steps : (b n part m x a : ℕ) (earlier : List Piece) (st : ControlStage) (phase : Phase) (q : Queue) (d : Deference) (past : List Bool) (g : Past) → Fit q.frames
-        → Waits n b st → 1 ≤ n → part ≤ 3 → n + part + 4 * (m + x) ≡ 292 → Gone phase q → Before set.burst b earlier
+    pub timer_steps : (c b n part m x a : ℕ) (earlier : List Piece) (st : ControlStage) (phase : Phase) (q : Queue) (d : Deference) (past : List Bool) (g : Past) → Fit q.frames
+        → Waits c n b st → 1 ≤ n → part ≤ 3 → n + part + 4 * (m + x) ≡ 292 → Gone phase q → Before set.burst b earlier
         → g.symbols ≡ pieces_symbols earlier ++ replicate m J
         → Tick st phase q d a (record { stage = Committing; part = part; past = past }) WaitMac [] g
-    timer_steps b n part m x a earlier _ phase q d past g fit waits_first some low is over fits spelled =
+    timer_steps c b n part m x a earlier _ phase q d past g fit waits_first some low is over fits spelled =
         cond_both (n == 1) _ _ (λ (next : ControlStage × TxCmd). Turns WaitMac d (is_sending phase) (record { stage = Committing; part = part; past = past }) [] g next (row_is WaitMac phase q d a))
         (λ e.
         let one : n ≡ 1 = grind (arith, nat_tests, e) in
-        lapses part m x a phase q d past g _ (may_start d false) (gone_turns phase q a (may_start d false) false drawn over fit) low (omega (arith, is, one)))
+        lapses c part m x a phase q d past g _ (may_start d false) (gone_turns phase q a (may_start d false) false drawn over fit) low (omega (arith, is, one)))
         (λ e.
         let more : 1 < n = grind (arith, nat_tests, e, some) in
-        waits_steps b n part m x a earlier (Commit (n - 1) b) phase q d past g _ commits waits_first refl refl more low is fits spelled
+        waits_steps c b n part m x a earlier (Commit c (n - 1) b) phase q d past g _ commits waits_first refl refl more low is fits spelled
         (may_start d false) (gone_turns phase q a (may_start d false) false drawn over fit))
-    timer_steps b n part m x a earlier _ phase q d past g fit waits_later some low is over fits spelled =
+    timer_steps c b n part m x a earlier _ phase q d past g fit waits_later some low is over fits spelled =
         cond_both (n == 1) _ _ (λ (next : ControlStage × TxCmd). Turns WaitMac d (is_sending phase) (record { stage = Committing; part = part; past = past }) [] g next (row_is WaitMac phase q d a))
         (λ e.
         let one : n ≡ 1 = grind (arith, nat_tests, e) in
-        lapses part m x a phase q d past g _ (may_start d false) (gone_turns phase q a (may_start d false) false drawn over fit) low (omega (arith, is, one)))
+        lapses c part m x a phase q d past g _ (may_start d false) (gone_turns phase q a (may_start d false) false drawn over fit) low (omega (arith, is, one)))
         (λ e.
         let more : 1 < n = grind (arith, nat_tests, e, some) in
-        waits_steps b n part m x a earlier (Burst (n - 1) b) phase q d past g _ pauses waits_later refl refl more low is fits spelled
+        waits_steps c b n part m x a earlier (Burst c (n - 1) b) phase q d past g _ pauses waits_later refl refl more low is fits spelled
         (may_start d false) (gone_turns phase q a (may_start d false) false drawn over fit))

@@ -41,28 +41,28 @@ module _ (Leaves : ℕ → Queued → Type 0) (set : ControlSet) (crs : Bool) (c
       (record { cmd = (control_row set st (control_is Leaves set crs class hit path (tx_of stage part past))).1; ended = ended path; bad = bad path }) line) now
 
   -- a piece is open: control is in Transmit from then on
-  in_piece : (b : ℕ) (st : ControlStage) (phase : Phase) (q : Queue) (a : ℕ) (stage : Stage) (s : ℕ) (past : List Bool) (e bad : Bool) (line : List ℕ) (g : Past)
-      → InPiece stage → Owns b st
+  in_piece : (c b : ℕ) (st : ControlStage) (phase : Phase) (q : Queue) (a : ℕ) (stage : Stage) (s : ℕ) (past : List Bool) (e bad : Bool) (line : List ℕ) (g : Past)
+      → InPiece stage → Owns c b st
       → (λ (turn : TxTurn). Comes Leaves set crs class hit (Transmit e bad) Busy (is_sending phase) false
-      (InTransmit b, CommitCmd) (row_of phase q a false bad drawn) turn (grown g turn.state.stage turn.state.part))
+      (InTransmit c b, CommitCmd) (row_of phase q a false bad drawn) turn (grown g turn.state.stage turn.state.part))
       (transmit_step (tx_of stage s past) (record { cmd = CommitCmd; ended = e; bad = bad }) line)
       → Tick Leaves set crs class hit drawn st phase q Busy a (tx_of stage s past) (Transmit e bad) line g
-  in_piece b st phase q a stage s past e bad line g piece own h =
+  in_piece c b st phase q a stage s past e bad line g piece own h =
       subst (By Leaves set crs class hit drawn st phase q Busy a (tx_of stage s past) (Transmit e bad) line g) (framing stage (s == 3) piece)
-      (owns_on Leaves set crs class hit drawn b st _ false
+      (owns_on Leaves set crs class hit drawn c b st _ false
       (λ next. (λ (turn : TxTurn). Comes Leaves set crs class hit (Transmit e bad) Busy (is_sending phase) false next (row_of phase q a false bad drawn) turn
       (grown g turn.state.stage turn.state.part))
       (transmit_step (tx_of stage s past) (record { cmd = next.1; ended = e; bad = bad }) line))
       frames own h)
 
-  opens_tick : (b p part a m : ℕ) (f : Queued) (earlier : List Piece) (st : ControlStage) (q : Queue) (past : List Bool) (line : List ℕ) (g : Past)
-      → Owns b st
+  opens_tick : (c b p part a m : ℕ) (f : Queued) (earlier : List Piece) (st : ControlStage) (q : Queue) (past : List Bool) (line : List ℕ) (g : Past)
+      → Owns c b st
       → (λ (turn : TxTurn). Comes Leaves set crs class hit (Transmit false false) Busy true false
-      (InTransmit b, CommitCmd) (row_of (Giving 0 p false) q a false false drawn) turn (grown g turn.state.stage turn.state.part))
+      (InTransmit c b, CommitCmd) (row_of (Giving 0 p false) q a false false drawn) turn (grown g turn.state.stage turn.state.part))
       (transmit_step (tx_of Committing part past) (record { cmd = CommitCmd; ended = false; bad = false }) line)
       → Tick Leaves set crs class hit drawn st (Giving 0 p false) q Busy a (tx_of Committing part past) (Transmit false false) line g
-  opens_tick b p part a m f earlier st q past line g own h =
-      owns_on Leaves set crs class hit drawn b st _ false
+  opens_tick c b p part a m f earlier st q past line g own h =
+      owns_on Leaves set crs class hit drawn c b st _ false
       (λ next. (λ (turn : TxTurn). Comes Leaves set crs class hit (Transmit false false) Busy true false next (row_of (Giving 0 p false) q a false false drawn) turn
       (grown g turn.state.stage turn.state.part))
       (transmit_step (tx_of Committing part past) (record { cmd = next.1; ended = false; bad = false }) line))
@@ -74,69 +74,69 @@ module _ (Leaves : ℕ → Queued → Type 0) (set : ControlSet) (crs : Bool) (c
   tick st phase q d a _ part past path line g (away e h none) fit mark = away_steps Leaves set crs class hit drawn st path phase q d a part past line g fit e h none
   tick _ phase q d a _ part past path line g (in_row {n = n} x is some low h) fit mark =
       row_steps Leaves set crs class hit drawn n x part a path phase q d past line g fit is some low h
-  tick st phase q d a _ part past _ _ g (waits {n = n} {b = b} earlier m x timer some low is over fits spelled) fit mark =
-      timer_steps Leaves set crs class hit drawn b n part m x a earlier st phase q d past g fit timer some low is over fits spelled
-  tick st _ q _ a _ part past _ line g (opens {b = b} {p = p} {f = f} earlier m own heads near low short fits spelled feeds) fit mark =
-      opens_tick b p part a m f earlier st q past line g own
-      (opens_steps set.burst Leaves b crs class true earlier m f p part a q hit _ past line g heads near low short fits spelled feeds
+  tick st phase q d a _ part past _ _ g (waits {c = c} {n = n} {b = b} earlier m x timer some low is over fits spelled) fit mark =
+      timer_steps Leaves set crs class hit drawn c b n part m x a earlier st phase q d past g fit timer some low is over fits spelled
+  tick st _ q _ a _ part past _ line g (opens {c = c} {b = b} {p = p} {f = f} earlier m own heads near low short fits spelled feeds) fit mark =
+      opens_tick c b p part a m f earlier st q past line g own
+      (opens_steps set.burst Leaves c b crs class true earlier m f p part a q hit _ past line g heads near low short fits spelled feeds
       (send_turns q f 0 p a false heads (omega (arith, near, low)) (omega (arith, (long f heads.frame).0))))
-  tick st _ q _ a stage part past _ line g (fed {b = b} {i = i} {s = s} {k = k} {p = p} {f = f} earlier m before own heads ahead low quarter within short piece marked fits feeds room) fit mark =
+  tick st _ q _ a stage part past _ line g (fed {c = c} {b = b} {i = i} {s = s} {k = k} {p = p} {f = f} earlier m before own heads ahead low quarter within short piece marked fits feeds room) fit mark =
       let turn = send_turns q f k p a false heads low within in
-      in_piece b st (Giving k p false) q a stage s past false false line g (is_open earlier m before f i stage past g.symbols piece) own
-      (fed_steps set.burst Leaves b crs class true earlier m before f k p a q heads low within short fits hit _ i s stage past line g
+      in_piece c b st (Giving k p false) q a stage s past false false line g (is_open earlier m before f i stage past g.symbols piece) own
+      (fed_steps set.burst Leaves c b crs class true earlier m before f k p a q heads low within short fits hit _ i s stage past line g
       (record { cmd = CommitCmd; ended = false; bad = false }) ahead quarter piece marked feeds room
       (marks Leaves set crs class hit drawn earlier m before f i s k p a q stage past line g.symbols _ _ _ heads piece feeds room turn mark) turn)
-  tick _ phase q _ a stage part past _ line g (given {b = b} {i = i} {s = s} {f = f} earlier m before over frame quarter short piece marked late fits feeds) fit mark =
-      in_piece b (InTransmit b) phase q a stage s past true false line g (is_open earlier m before f i stage past g.symbols piece) owning
+  tick _ phase q _ a stage part past _ line g (given {c = c} {b = b} {i = i} {s = s} {f = f} earlier m before over frame quarter short piece marked late fits feeds) fit mark =
+      in_piece c b (InTransmit c b) phase q a stage s past true false line g (is_open earlier m before f i stage past g.symbols piece) owning
       (go _ (gone_turns phase q a false false drawn over fit))
     where
       go : (left : Row) → GoneTurn q a false left
           → (λ (turn : TxTurn). Comes Leaves set crs class hit (Transmit true false) Busy (is_sending phase) false
-          (InTransmit b, CommitCmd) left turn (grown g turn.state.stage turn.state.part))
+          (InTransmit c b, CommitCmd) left turn (grown g turn.state.stage turn.state.part))
           (transmit_step (tx_of stage s past) (record { cmd = CommitCmd; ended = true; bad = false }) line)
       go _ (mac_starts e heads) = absurd (cc)
       go _ (mac_stays {phase = to} on) =
-          given_steps set.burst Leaves b crs class (is_sending phase) earlier m before f frame short fits to q a on hit CommitCmd i s stage past line g quarter piece marked late feeds
-  tick _ phase q _ a _ part past _ _ g (ends {b = b} {s = s} {f = f} earlier m before over frame quarter short spelled marked fits) fit mark =
+          given_steps set.burst Leaves c b crs class (is_sending phase) earlier m before f frame short fits to q a on hit CommitCmd i s stage past line g quarter piece marked late feeds
+  tick _ phase q _ a _ part past _ _ g (ends {c = c} {b = b} {s = s} {f = f} earlier m before over frame quarter short spelled marked fits) fit mark =
       go _ (gone_turns phase q a false false drawn over fit)
     where
       go : (left : Row) → GoneTurn q a false left
           → (λ (turn : TxTurn). Comes Leaves set crs class hit (Transmit true false) Busy (is_sending phase) false
-          (InTransmit b, CommitCmd) left turn (grown g turn.state.stage turn.state.part))
+          (InTransmit c b, CommitCmd) left turn (grown g turn.state.stage turn.state.part))
           (transmit_step (tx_of (ClosingEnd true) s past) (record { cmd = CommitCmd; ended = true; bad = false }) [])
       go _ (mac_starts e heads) = absurd (cc)
       go _ (mac_stays {phase = to} on) =
-          ends_steps set.burst Leaves b crs class (is_sending phase) earlier m before f frame short fits to q a on hit CommitCmd s past g quarter spelled marked
-  tick _ phase q _ a _ part past _ _ g (closes {b = b} {s = s} {f = f} {bad = met} earlier m before over frame quarter short spelled marked fits) fit mark =
-      good_closer Leaves set crs class hit drawn b s f phase q a past met g earlier m before fit over frame quarter short spelled marked fits
-  tick _ phase q _ a _ part past _ line g (spoils {b = b} {ended = all} low (gone over)) fit mark = go _ (gone_turns phase q a false true drawn over fit)
+          ends_steps set.burst Leaves c b crs class (is_sending phase) earlier m before f frame short fits to q a on hit CommitCmd s past g quarter spelled marked
+  tick _ phase q _ a _ part past _ _ g (closes {c = c} {b = b} {s = s} {f = f} {bad = met} earlier m before over frame quarter short spelled marked fits) fit mark =
+      good_closer Leaves set crs class hit drawn c b s f phase q a past met g earlier m before fit over frame quarter short spelled marked fits
+  tick _ phase q _ a _ part past _ line g (spoils {c = c} {b = b} {ended = all} low (gone over)) fit mark = go _ (gone_turns phase q a false true drawn over fit)
     where
       go : (left : Row) → GoneTurn q a false left
           → (λ (turn : TxTurn). Comes Leaves set crs class hit (Transmit all true) Busy (is_sending phase) false
-          (InTransmit b, CommitCmd) left turn (grown g turn.state.stage turn.state.part))
+          (InTransmit c b, CommitCmd) left turn (grown g turn.state.stage turn.state.part))
           (transmit_step (tx_of Committing part past) (record { cmd = CommitCmd; ended = all; bad = true }) line)
       go _ (mac_starts e heads) = absurd (cc)
-      go _ (mac_stays {phase = to} on) = spoils_over set.burst Leaves b crs class (is_sending phase) to q a on all hit part past line g low
-  tick _ phase q _ a _ part past _ line g (spoils {b = b} {ended = all} low (gives {p = p} going some)) fit mark =
-      spoils_steps set.burst Leaves b crs class (is_sending phase) all hit part p phase q _ past line g low (gives_turns p phase q a false true drawn going)
-  tick _ phase q _ a stage part past _ line g (spoiled {b = b} {s = s} {ended = all} piece quarter (gone over)) fit mark =
-      in_piece b (InTransmit b) phase q a stage s past all true line g piece owning
+      go _ (mac_stays {phase = to} on) = spoils_over set.burst Leaves c b crs class (is_sending phase) to q a on all hit part past line g low
+  tick _ phase q _ a _ part past _ line g (spoils {c = c} {b = b} {ended = all} low (gives {p = p} going some)) fit mark =
+      spoils_steps set.burst Leaves c b crs class (is_sending phase) all hit part p phase q _ past line g low (gives_turns p phase q a false true drawn going)
+  tick _ phase q _ a stage part past _ line g (spoiled {c = c} {b = b} {s = s} {ended = all} piece quarter (gone over)) fit mark =
+      in_piece c b (InTransmit c b) phase q a stage s past all true line g piece owning
       (go _ (gone_turns phase q a false true drawn over fit))
     where
       go : (left : Row) → GoneTurn q a false left
           → (λ (turn : TxTurn). Comes Leaves set crs class hit (Transmit all true) Busy (is_sending phase) false
-          (InTransmit b, CommitCmd) left turn (grown g turn.state.stage turn.state.part))
+          (InTransmit c b, CommitCmd) left turn (grown g turn.state.stage turn.state.part))
           (transmit_step (tx_of stage s past) (record { cmd = CommitCmd; ended = all; bad = true }) line)
       go _ (mac_starts e heads) = absurd (cc)
-      go _ (mac_stays {phase = to} on) = spoiled_over set.burst Leaves b crs class (is_sending phase) to q a on all hit CommitCmd stage s past line g quarter piece
-  tick _ phase q _ a stage part past _ line g (spoiled {b = b} {s = s} {ended = all} piece quarter (gives {p = p} going some)) fit mark =
-      in_piece b (InTransmit b) phase q a stage s past all true line g piece owning
-      (spoiled_gives set.burst Leaves b crs class (is_sending phase) p q _ (gives_low p phase q going) (gives_turns p phase q a false true drawn going)
+      go _ (mac_stays {phase = to} on) = spoiled_over set.burst Leaves c b crs class (is_sending phase) to q a on all hit CommitCmd stage s past line g quarter piece
+  tick _ phase q _ a stage part past _ line g (spoiled {c = c} {b = b} {s = s} {ended = all} piece quarter (gives {p = p} going some)) fit mark =
+      in_piece c b (InTransmit c b) phase q a stage s past all true line g piece owning
+      (spoiled_gives set.burst Leaves c b crs class (is_sending phase) p q _ (gives_low p phase q going) (gives_turns p phase q a false true drawn going)
       all hit CommitCmd stage s past line g quarter piece some)
-  tick _ phase q _ a _ part past _ _ g (ends_badly {b = b} {s = s} {ended = all} (ends_so {good = good}) quarter over) fit mark =
-      bad_end Leaves set crs class hit drawn good b s phase q a past all g fit over quarter
-  tick _ phase q _ a _ part past _ _ g (ends_badly {b = b} {s = s} {ended = all} closes_so quarter over) fit mark =
-      bad_closer Leaves set crs class hit drawn b s phase q a past all g fit over quarter
+  tick _ phase q _ a _ part past _ _ g (ends_badly {c = c} {b = b} {s = s} {ended = all} (ends_so {good = good}) quarter over) fit mark =
+      bad_end Leaves set crs class hit drawn good c b s phase q a past all g fit over quarter
+  tick _ phase q _ a _ part past _ _ g (ends_badly {c = c} {b = b} {s = s} {ended = all} closes_so quarter over) fit mark =
+      bad_closer Leaves set crs class hit drawn c b s phase q a past all g fit over quarter
 
 -- ---- an offer
 

@@ -71,14 +71,14 @@ module _ (Leaves : ℕ → Queued → Type 0) (set : ControlSet) (crs : Bool) (c
       (transmit_step tx (record { cmd = next.1; ended = ended path; bad = bad path }) line))
       (control_row set st (record { crs = crs; class = class; ready = ready path; begun = begun path; tx = r }))
 
-  pub owns_on : (b : ℕ) (st : ControlStage) (r : TxReport) (can : Bool) (P : ControlStage × TxCmd → Type 0) → Unclosed r → Owns b st → P (InTransmit b, CommitCmd)
+  pub owns_on : (c b : ℕ) (st : ControlStage) (r : TxReport) (can : Bool) (P : ControlStage × TxCmd → Type 0) → Unclosed r → Owns c b st → P (InTransmit c b, CommitCmd)
       → P (control_row set st (record { crs = crs; class = class; ready = can; begun = true; tx = r }))
-  owns_on b _ _ can P leads commits h = h
-  owns_on b _ _ can P leads owning h = h
-  owns_on b _ _ can P leads pauses h = h
-  owns_on b _ _ can P frames commits h = h
-  owns_on b _ _ can P frames owning h = h
-  owns_on b _ _ can P frames pauses h = h
+  owns_on c b _ _ can P leads commits h = h
+  owns_on c b _ _ can P leads owning h = h
+  owns_on c b _ _ can P leads pauses h = h
+  owns_on c b _ _ can P frames commits h = h
+  owns_on c b _ _ can P frames owning h = h
+  owns_on c b _ _ can P frames pauses h = h
 
   -- the first H of a frame that the MAC gives begins
   abbrev pub Mark : Row → TxTurn → ℕ → Type 0
@@ -105,22 +105,22 @@ module _ (Leaves : ℕ → Queued → Type 0) (set : ControlSet) (crs : Bool) (c
   -- ---- the closer
 
   -- R goes on, or has ended
-  pub good_closer : (b s : ℕ) (f : Queued) (phase : Phase) (q : Queue) (a : ℕ) (past : List Bool) (met : Bool) (g : Past) (earlier : List Piece) (m : ℕ) (before : List Bool) → Fit q.frames
+  pub good_closer : (c b s : ℕ) (f : Queued) (phase : Phase) (q : Queue) (a : ℕ) (past : List Bool) (met : Bool) (g : Past) (earlier : List Piece) (m : ℕ) (before : List Bool) → Fit q.frames
       → Gone phase q → IsFrame f.frame → s ≤ 3 → m ≤ 72 → g.symbols ≡ pieces_symbols earlier ++ piece_symbols (sent_piece (m + 2) before f.frame true)
       → Marked Leaves g f (count_of f + 1) s → Before set.burst b earlier
-      → By (InTransmit b) phase q Busy a (record { stage = ClosingCloser true; part = s; past = past }) (Transmit true met) [] g (report_by (ClosingCloser true) (s == 3))
-  good_closer b s f phase q a past met g earlier m before fit over frame quarter short spelled mark fits =
+      → By (InTransmit c b) phase q Busy a (record { stage = ClosingCloser true; part = s; past = past }) (Transmit true met) [] g (report_by (ClosingCloser true) (s == 3))
+  good_closer c b s f phase q a past met g earlier m before fit over frame quarter short spelled mark fits =
       go (s == 3) refl (gone_turns phase q a false met drawn over fit)
     where
       go : (t : Bool) → (s == 3) ≡ t → GoneTurn q a false (row_of phase q a false met drawn)
-          → By (InTransmit b) phase q Busy a (record { stage = ClosingCloser true; part = s; past = past }) (Transmit true met) [] g (report_by (ClosingCloser true) t)
+          → By (InTransmit c b) phase q Busy a (record { stage = ClosingCloser true; part = s; past = past }) (Transmit true met) [] g (report_by (ClosingCloser true) t)
       go false e turn =
           by_part (ClosingCloser true) s past (record { cmd = CommitCmd; ended = true; bad = met }) [] g
-          (λ (turn : TxTurn) (h : Past). Comes Leaves set crs class hit (Transmit true met) Busy (is_sending phase) false (InTransmit b, CommitCmd) (row_of phase q a false met drawn) turn h)
+          (λ (turn : TxTurn) (h : Past). Comes Leaves set crs class hit (Transmit true met) Busy (is_sending phase) false (InTransmit c b, CommitCmd) (row_of phase q a false met drawn) turn h)
           refl quarter (λ less. lasts less _ turn) (λ end. absurd (grind (arith, nat_tests, e, end)))
         where
           lasts : s < 3 → (left : Row) → GoneTurn q a false left
-              → Comes Leaves set crs class hit (Transmit true met) Busy (is_sending phase) false (InTransmit b, CommitCmd) left
+              → Comes Leaves set crs class hit (Transmit true met) Busy (is_sending phase) false (InTransmit c b, CommitCmd) left
               (record { state = record { stage = ClosingCloser true; part = s + 1; past = past }; driven = quarter_of (record { stage = ClosingCloser true; part = s + 1; past = past }); line = [] }) (on_past g)
           lasts less _ (mac_starts f g) = absurd (cc)
           lasts less _ (mac_stays on) = closes earlier m before on frame (omega (arith, less)) short spelled (marked_lasts Leaves earlier m before f g (count_of f + 1) s mark) fits
@@ -130,11 +130,11 @@ module _ (Leaves : ℕ → Queued → Type 0) (set : ControlSet) (crs : Bool) (c
           (transmit_step (record { stage = ClosingCloser true; part = s; past = past }) (record { cmd = next.1; ended = true; bad = met }) []))
           (λ more.
           by_part (ClosingCloser true) s past (record { cmd = CommitCmd; ended = true; bad = met }) [] g
-          (λ (turn : TxTurn) (h : Past). Comes Leaves set crs class hit (Transmit true met) Busy (is_sending phase) true (Burst 128 (b - 1), CommitCmd) (row_of phase q a false met drawn) turn h)
+          (λ (turn : TxTurn) (h : Past). Comes Leaves set crs class hit (Transmit true met) Busy (is_sending phase) true (Burst c 128 (b - 1), CommitCmd) (row_of phase q a false met drawn) turn h)
           refl quarter (λ less. absurd (grind (arith, nat_tests, e, less))) (λ end. bursts (grind (arith, nat_tests, more)) _ turn))
           (λ _.
           by_part (ClosingCloser true) s past (record { cmd = NoCmd; ended = true; bad = met }) [] g
-          (λ (turn : TxTurn) (h : Past). Comes Leaves set crs class hit (Transmit true met) Busy (is_sending phase) true (Drain, NoCmd) (row_of phase q a false met drawn) turn h)
+          (λ (turn : TxTurn) (h : Past). Comes Leaves set crs class hit (Transmit true met) Busy (is_sending phase) true (Drain c, NoCmd) (row_of phase q a false met drawn) turn h)
           refl quarter (λ less. absurd (grind (arith, nat_tests, e, less)))
           (λ end. away refl (idle_next true false true crs class hit q a false Busy true (is_sending phase) _ turn) refl))
         where
@@ -142,7 +142,7 @@ module _ (Leaves : ℕ → Queued → Type 0) (set : ControlSet) (crs : Bool) (c
           whole = earlier ++ sent_piece (m + 2) before f.frame true ∷ []
 
           bursts : 1 ≤ b → (left : Row) → GoneTurn q a false left
-              → Comes Leaves set crs class hit (Transmit true met) Busy (is_sending phase) true (Burst 128 (b - 1), CommitCmd) left
+              → Comes Leaves set crs class hit (Transmit true met) Busy (is_sending phase) true (Burst c 128 (b - 1), CommitCmd) left
               (record { state = record { stage = Committing; part = 0; past = past }; driven = quarter_of (record { stage = Committing; part = 0; past = past }); line = [] }) (grown g Committing 0)
           bursts some _ (mac_starts f g) = absurd (cc)
           bursts some _ (mac_stays on) =
@@ -156,42 +156,42 @@ module _ (Leaves : ℕ → Queued → Type 0) (set : ControlSet) (crs : Bool) (c
               (ap (λ (ss : List Symbol). ss ++ J ∷ []) (spelled ∙ sym (more_pieces earlier (sent_piece (m + 2) before f.frame true))))
 
   -- K goes on, or has ended
-  pub bad_closer : (b s : ℕ) (phase : Phase) (q : Queue) (a : ℕ) (past : List Bool) (all : Bool) (g : Past) → Fit q.frames → Gone phase q → s ≤ 3
-      → By (InTransmit b) phase q Busy a (record { stage = ClosingCloser false; part = s; past = past }) (Transmit all true) [] g (report_by (ClosingCloser false) (s == 3))
-  bad_closer b s phase q a past all g fit over quarter = go (s == 3) refl (gone_turns phase q a false true drawn over fit)
+  pub bad_closer : (c b s : ℕ) (phase : Phase) (q : Queue) (a : ℕ) (past : List Bool) (all : Bool) (g : Past) → Fit q.frames → Gone phase q → s ≤ 3
+      → By (InTransmit c b) phase q Busy a (record { stage = ClosingCloser false; part = s; past = past }) (Transmit all true) [] g (report_by (ClosingCloser false) (s == 3))
+  bad_closer c b s phase q a past all g fit over quarter = go (s == 3) refl (gone_turns phase q a false true drawn over fit)
     where
       go : (t : Bool) → (s == 3) ≡ t → GoneTurn q a false (row_of phase q a false true drawn)
-          → By (InTransmit b) phase q Busy a (record { stage = ClosingCloser false; part = s; past = past }) (Transmit all true) [] g (report_by (ClosingCloser false) t)
+          → By (InTransmit c b) phase q Busy a (record { stage = ClosingCloser false; part = s; past = past }) (Transmit all true) [] g (report_by (ClosingCloser false) t)
       go false e turn =
           by_part (ClosingCloser false) s past (record { cmd = CommitCmd; ended = all; bad = true }) [] g
-          (λ (turn : TxTurn) (h : Past). Comes Leaves set crs class hit (Transmit all true) Busy (is_sending phase) false (InTransmit b, CommitCmd) (row_of phase q a false true drawn) turn h)
+          (λ (turn : TxTurn) (h : Past). Comes Leaves set crs class hit (Transmit all true) Busy (is_sending phase) false (InTransmit c b, CommitCmd) (row_of phase q a false true drawn) turn h)
           refl quarter (λ less. lasts less _ turn) (λ end. absurd (grind (arith, nat_tests, e, end)))
         where
           lasts : s < 3 → (left : Row) → GoneTurn q a false left
-              → Comes Leaves set crs class hit (Transmit all true) Busy (is_sending phase) false (InTransmit b, CommitCmd) left
+              → Comes Leaves set crs class hit (Transmit all true) Busy (is_sending phase) false (InTransmit c b, CommitCmd) left
               (record { state = record { stage = ClosingCloser false; part = s + 1; past = past }; driven = quarter_of (record { stage = ClosingCloser false; part = s + 1; past = past }); line = [] }) (on_past g)
           lasts less _ (mac_starts f g) = absurd (cc)
           lasts less _ (mac_stays on) = ends_badly closes_so (omega (arith, less)) on
       go true e turn =
           by_part (ClosingCloser false) s past (record { cmd = NoCmd; ended = all; bad = true }) [] g
-          (λ (turn : TxTurn) (h : Past). Comes Leaves set crs class hit (Transmit all true) Busy (is_sending phase) true (Drain, NoCmd) (row_of phase q a false true drawn) turn h)
+          (λ (turn : TxTurn) (h : Past). Comes Leaves set crs class hit (Transmit all true) Busy (is_sending phase) true (Drain c, NoCmd) (row_of phase q a false true drawn) turn h)
           refl quarter (λ less. absurd (grind (arith, nat_tests, e, less)))
           (λ end. away refl (idle_next true false true crs class hit q a false Busy true (is_sending phase) _ turn) refl)
 
   -- T of a piece that something has met
-  pub bad_end : (good : Bool) (b s : ℕ) (phase : Phase) (q : Queue) (a : ℕ) (past : List Bool) (all : Bool) (g : Past) → Fit q.frames → Gone phase q → s ≤ 3
-      → By (InTransmit b) phase q Busy a (record { stage = ClosingEnd good; part = s; past = past }) (Transmit all true) [] g Framing
-  bad_end good b s phase q a past all g fit over quarter = go good _ (gone_turns phase q a false true drawn over fit)
+  pub bad_end : (good : Bool) (c b s : ℕ) (phase : Phase) (q : Queue) (a : ℕ) (past : List Bool) (all : Bool) (g : Past) → Fit q.frames → Gone phase q → s ≤ 3
+      → By (InTransmit c b) phase q Busy a (record { stage = ClosingEnd good; part = s; past = past }) (Transmit all true) [] g Framing
+  bad_end good c b s phase q a past all g fit over quarter = go good _ (gone_turns phase q a false true drawn over fit)
     where
       go : (good : Bool) (left : Row) → GoneTurn q a false left
-          → (λ (turn : TxTurn). Comes Leaves set crs class hit (Transmit all true) Busy (is_sending phase) false (InTransmit b, CommitCmd) left turn (grown g turn.state.stage turn.state.part))
+          → (λ (turn : TxTurn). Comes Leaves set crs class hit (Transmit all true) Busy (is_sending phase) false (InTransmit c b, CommitCmd) left turn (grown g turn.state.stage turn.state.part))
           (transmit_step (record { stage = ClosingEnd good; part = s; past = past }) (record { cmd = CommitCmd; ended = all; bad = true }) [])
       go good _ (mac_starts f g) = absurd (cc)
       go true _ (mac_stays {phase = to} on) =
           by_part (ClosingEnd true) s past (record { cmd = CommitCmd; ended = all; bad = true }) [] g
-          (λ (turn : TxTurn) (h : Past). Comes Leaves set crs class hit (Transmit all true) Busy (is_sending phase) false (InTransmit b, CommitCmd) (row to q a Nothing NoNote) turn h)
+          (λ (turn : TxTurn) (h : Past). Comes Leaves set crs class hit (Transmit all true) Busy (is_sending phase) false (InTransmit c b, CommitCmd) (row to q a Nothing NoNote) turn h)
           refl quarter (λ less. ends_badly ends_so (omega (arith, less)) on) (λ end. ends_badly closes_so (omega arith) on)
       go false _ (mac_stays {phase = to} on) =
           by_part (ClosingEnd false) s past (record { cmd = CommitCmd; ended = all; bad = true }) [] g
-          (λ (turn : TxTurn) (h : Past). Comes Leaves set crs class hit (Transmit all true) Busy (is_sending phase) false (InTransmit b, CommitCmd) (row to q a Nothing NoNote) turn h)
+          (λ (turn : TxTurn) (h : Past). Comes Leaves set crs class hit (Transmit all true) Busy (is_sending phase) false (InTransmit c b, CommitCmd) (row to q a Nothing NoNote) turn h)
           refl quarter (λ less. ends_badly ends_so (omega (arith, less)) on) (λ end. ends_badly closes_so (omega arith) on)

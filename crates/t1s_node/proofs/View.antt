@@ -1,5 +1,5 @@
 -- What the law of the node uses of control: a view of its state, and how one step may change it.
-use Rattle.std.proofs.Common.{◌≡◌, ℕ, ◌+◌, ◌-◌, ◌*◌, ◌==◌, ◌<◌, ◌≤◌, Bool, true, false, ◌&&◌, IsTrue, nat_lt, nat_le, refl, ap, rules, arith}
+use Rattle.std.proofs.Common.{◌≡◌, ℕ, ◌+◌, ◌-◌, ◌*◌, ◌==◌, ◌<◌, ◌≤◌, Bool, true, false, ◌&&◌, not, IsTrue, nat_lt, nat_le, refl, ap, rules, arith}
 use Rattle.std.proofs.lemmas.Bool.Decides.{nat_tests}
 use Rattle.t1s_pcs_tx.specs.declared.TxCmd.{TxCmd}
 use Rattle.t1s_pcs_tx.specs.declared.TxCmd.TheVariants.{None as NoCmd, Beacon as BeaconCmd, Commit as CommitCmd}
@@ -10,7 +10,7 @@ use Rattle.plca_control.specs.declared.State.{State}
 use Rattle.plca_control.specs.declared.State.TheVariants.{Disabled, Recover, Resync, Early, Beacon, Syncing, WaitTo, Receive, Commit, Transmit, Burst, Drain}
 use Rattle.plca_control.specs.Runs.{is_transmit}
 use Rattle.t1s_pcs_tx.specs.State.{is_closed}
-use Rattle.plca_control.specs.ControlTable.{reach, control_row, control_start, is_own, is_active, is_closed_good, is_beacon}
+use Rattle.plca_control.specs.ControlTable.{mine, coord, reach, control_row, control_start, is_own, is_active, is_closed_good, is_beacon}
 use Rattle.t1s_node.specs.Laws.{is_commit}
 use Rattle.std.specs.Cmp.{second_so}
 use Rattle.std.proofs.lemmas.Bool.{cond_both}
@@ -26,9 +26,9 @@ pub data View : Type 0 where
 
 abbrev pub view_of : State → View
 view_of (Beacon n) = InRow (n - 1)
-view_of (Commit n b) = InCommit n
-view_of (Transmit b) = InTransmit
-view_of (Burst n b) = InPause n
+view_of (Commit c n b) = InCommit n
+view_of (Transmit c b) = InTransmit
+view_of (Burst c n b) = InPause n
 view_of _ = Away
 
 abbrev pub cmd_of : View → TxCmd
@@ -65,8 +65,8 @@ pub data Turns (ready begun closed : Bool) : View → View → Type 0 where
 -- each count in a state that is left runs from its start down to 1
 abbrev pub counts : State → Bool
 counts (Beacon n) = nat_le 1 n
-counts (Commit n b) = nat_le 1 n
-counts (Burst n b) = nat_le 1 n
+counts (Commit c n b) = nat_le 1 n
+counts (Burst c n b) = nat_le 1 n
 counts _ = true
 
 pub start_counts : (s : ControlSet) → IsTrue (counts (control_start s).state)
@@ -100,9 +100,9 @@ module _ (s : ControlSet) (i : ControlIn) where
 
   reach_turns : (c : ℕ) → TurnsTo Away (reach s i.ready c)
   reach_turns c =
-      cond_both ((s.id == 0) && nat_le s.count c) _ _ (TurnsTo Away) (λ _. row_begins)
-      (λ _. cond_both ((c == s.id) && i.ready) _ _ (TurnsTo Away) (λ e. own_begins (second_so (c == s.id) i.ready e))
-      (λ _. cond_both (nat_lt 0 s.id && nat_le 255 c) _ _ (TurnsTo Away) (λ _. stays_away) (λ _. stays_away)))
+      cond_both (coord s && nat_le s.count c) _ _ (TurnsTo Away) (λ _. row_begins)
+      (λ _. cond_both (mine s c && i.ready) _ _ (TurnsTo Away) (λ e. own_begins (second_so (mine s c) i.ready e))
+      (λ _. cond_both (not (coord s) && nat_le 255 c) _ _ (TurnsTo Away) (λ _. stays_away) (λ _. stays_away)))
 
   pub row_turns : (st : State) → IsTrue (counts st) → Turns i.ready i.begun (is_closed i.tx) (view_of st) (view_of (control_row s st i).0)
   row_turns Disabled h = stays_away
@@ -121,31 +121,31 @@ module _ (s : ControlSet) (i : ControlIn) where
       (λ _. cond_both (n == 1) _ _ (TurnsTo Away) (λ _. reach_turns (c + 1)) (λ _. stays_away))
   row_turns (Receive c) h =
       cond_both i.crs _ _ (TurnsTo Away) (λ _. stays_away)
-      (λ _. cond_both (is_beacon i.class && nat_lt 0 s.id) _ _ (TurnsTo Away) (λ _. reach_turns 0)
-      (λ _. cond_both (is_beacon i.class && (s.id == 0)) _ _ (TurnsTo Away) (λ _. stays_away) (λ _. reach_turns (c + 1))))
-  row_turns (Commit n b) h =
+      (λ _. cond_both (is_beacon i.class && not (coord s)) _ _ (TurnsTo Away) (λ _. reach_turns 0)
+      (λ _. cond_both (is_beacon i.class && coord s) _ _ (TurnsTo Away) (λ _. stays_away) (λ _. reach_turns (c + 1))))
+  row_turns (Commit c n b) h =
       cond_both i.begun _ _ (TurnsTo (InCommit n)) (λ e. commit_sends e)
       (λ e. cond_both (n == 1) _ _ (TurnsTo (InCommit n)) (λ one. commit_ends e (grind (arith, nat_tests, one)))
       (λ more. commit_waits e (grind (arith, nat_tests, more, h))))
-  row_turns (Transmit b) h =
+  row_turns (Transmit c b) h =
       cond_both (is_closed_good i.tx && nat_lt 0 b) _ _ (TurnsTo InTransmit) (λ e. pauses (good_closes i.tx b e))
       (λ _. cond_both (is_closed i.tx) _ _ (TurnsTo InTransmit) (λ e. transmit_ends e) (λ e. stays_transmit e))
     where
       good_closes : (r : TxReport) (b : ℕ) → (is_closed_good r && nat_lt 0 b) ≡ true → is_closed r ≡ true
       good_closes _ b e = search rules
-  row_turns (Burst n b) h =
+  row_turns (Burst c n b) h =
       cond_both i.begun _ _ (TurnsTo (InPause n)) (λ e. pause_sends e)
       (λ e. cond_both (n == 1) _ _ (TurnsTo (InPause n)) (λ one. pause_ends e (grind (arith, nat_tests, one)))
       (λ more. pause_waits e (grind (arith, nat_tests, more, h)) (grind (arith, nat_tests, more, h))))
-  row_turns Drain h = cond_both i.crs _ _ (TurnsTo Away) (λ _. stays_away) (λ _. reach_turns (s.id + 1))
+  row_turns (Drain c) h = cond_both i.crs _ _ (TurnsTo Away) (λ _. stays_away) (λ _. reach_turns (c + 1))
 
 -- control in Commit, by its view
 pub commit_view : (st : State) → is_commit st ≡ true → (n : ℕ) × (view_of st ≡ InCommit n)
-commit_view (Commit n b) e = (n, refl)
+commit_view (Commit c n b) e = (n, refl)
 commit_view _ e = absurd (cc)
 
 pub view_commit : (st : State) (n : ℕ) → view_of st ≡ InCommit n → is_commit st ≡ true
-view_commit (Commit m b) n e = refl
+view_commit (Commit c m b) n e = refl
 view_commit _ n e = absurd (cc)
 
 count_of_commit : View → ℕ
@@ -157,12 +157,12 @@ unfolding count_of_commit
 count_is m n e = ap count_of_commit e
 
 pub still_commit : (s : ControlSet) (st : State) (i : ControlIn) (n : ℕ) → view_of st ≡ InCommit n → 1 < n → i.begun ≡ false → is_commit (control_row s st i).0 ≡ true
-still_commit s (Commit m b) i n e more none =
+still_commit s (Commit c m b) i n e more none =
     let same : m ≡ n = count_is m n e in
     let other : (m == 1) ≡ false = grind (arith, nat_tests, same, more) in
     rw (none, other) refl
 still_commit s _ i n e more none = absurd (cc)
 
 pub now_transmits : (s : ControlSet) (st : State) (i : ControlIn) → is_commit st ≡ true → i.begun ≡ true → is_transmit (control_row s st i).0 ≡ true
-now_transmits s (Commit m b) i e some = rw some refl
+now_transmits s (Commit c m b) i e some = rw some refl
 now_transmits s _ i e some = absurd (cc)

@@ -19,7 +19,7 @@ use Rattle.t1s_node.specs.Runs.{CoreTick, IsUndisturbed, found_at, left_at, acti
 
 -- control is in Commit
 abbrev pub is_commit : ControlStage → Bool
-is_commit (CommitStage n b) = true
+is_commit (CommitStage c n b) = true
 is_commit _ = false
 
 -- the transmitter spells the nibble at place i of a piece: J and H for the first four

@@ -5,7 +5,7 @@ use t1s_pcs_rx::RxEvent;
 use t1s_symbols::Quarter;
 
 /// What a node is set to.
-#[derive(Clone, Copy, PartialEq, Eq, Debug)]
+#[derive(Clone, Copy)]
 pub struct NodeSet {
     pub control: ControlSet,
     /// How many ticks in a row have energy before carrier is read, 1 to 16.

@@ -1,6 +1,6 @@
 //! Single nodes, tick by tick: what they send is heard by a receiver of its own.
 
-ghost use Rattle.std.specs.Prelude.{IfSome};
+ghost use Rattle.std.specs.Prelude.{◌≤◌, IfSome};
 ghost use Rattle.t1s_symbols.specs.Ranges.{IsHeard, IsQuarter};
 ghost use Rattle.t1s_node.specs.Node.{IsNodeSet};
 
@@ -8,6 +8,7 @@ use super::*;
 use plca_control::ControlSet;
 use std::alloc::Global;
 use std::test::Fail;
+use t1s_base::Ids;
 use t1s_frame::Frame;
 use t1s_mac::{ListDraws, MacNote, PickedDraws};
 use t1s_pcs_rx::{Closer, Kind, PcsRx, RxEvent};
@@ -20,29 +21,36 @@ mod calm;
 /// How long a beacon lasts, in ticks.
 const BEACON_TICKS: u16 = 20;
 
-/// A follower of ID 1, of two nodes.
-const FOLLOWER: NodeSet = NodeSet {
-    control: ControlSet {
-        id: 1,
-        count: 2,
-        to: 32,
-        burst: 0,
-    },
-    rise: 2,
-    fall: 4,
-};
+/// One of two nodes, with this ID alone, and opportunities of so many ticks.
+fn set_of(id: u8, to: u8) -> NodeSet
+    requires low { 16 ≤ to }
+    ensures { IsNodeSet result }
+{
+    NodeSet {
+        control: ControlSet {
+            ids: Ids::one(id),
+            count: 2,
+            to,
+            burst: 0,
+        },
+        rise: 2,
+        fall: 4,
+    }
+}
+
+/// A follower of two nodes.
+fn follower_set() -> NodeSet
+    ensures { IsNodeSet result }
+{
+    set_of(1, 32)
+}
 
 /// The coordinator of two nodes, with the shortest opportunities.
-const COORDINATOR: NodeSet = NodeSet {
-    control: ControlSet {
-        id: 0,
-        count: 2,
-        to: 16,
-        burst: 0,
-    },
-    rise: 2,
-    fall: 4,
-};
+fn coordinator_set() -> NodeSet
+    ensures { IsNodeSet result }
+{
+    set_of(0, 16)
+}
 
 /// The silent ticks before the first beacon of that coordinator: 258 opportunities.
 const TICKS_BEFORE_BEACON: u16 = 4128;
@@ -58,7 +66,7 @@ fn node_of(set: NodeSet, alloc: Global) -> Result<Node, Fail>
 }
 
 fn follower(alloc: Global) -> Result<Node, Fail> {
-    node_of(FOLLOWER, alloc)
+    node_of(follower_set(), alloc)
 }
 
 fn queued(number: u16) -> Result<Queued, Fail> {
@@ -274,7 +282,7 @@ fn run_silent(node: &mut Node, ticks: u16) -> u16 {
 
 #[test]
 fn any_signal_in_a_drive_clashes(rt: HostRuntime) -> Result<(), Fail> {
-    let mut node = node_of(COORDINATOR, rt.alloc())?;
+    let mut node = node_of(coordinator_set(), rt.alloc())?;
     assert_eq!(rt; run_silent(&mut node, TICKS_BEFORE_BEACON), 0);
     assert!(rt; node.drive().quarter.is_some());
     assert!(rt; node.hear(heard_at(0, FIRST_BEACON)).clash);

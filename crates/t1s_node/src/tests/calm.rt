@@ -22,7 +22,7 @@ fn step_silent(node: &mut Node) -> bool {
 
 #[test]
 fn acts_after_its_calm_ticks(rt: HostRuntime) -> Result<(), Fail> {
-    let mut node = node_of(COORDINATOR, rt.alloc())?;
+    let mut node = node_of(coordinator_set(), rt.alloc())?;
     assert_eq!(rt; pass_calm(&mut node, 5000), u64::from(TICKS_BEFORE_BEACON));
     assert!(rt; step_silent(&mut node));
     assert_eq!(rt; node.calm_for(5000), 0);
@@ -80,7 +80,7 @@ fn backing_off(alloc: Global, ticks: u16) -> Result<Node, Fail> {
     let ring = FrameRing::with_room(alloc, 1)?;
     let line = DelayLine::new(alloc)?;
     let draws = PickedDraws::List(ListDraws::new([1].to_vec(alloc)?));
-    let mut node = Node::new(FOLLOWER, ring, line, draws);
+    let mut node = Node::new(follower_set(), ring, line, draws);
     node.offer(queued(7)?)?;
     let commit = Burst {
         from: 200,
@@ -93,7 +93,7 @@ fn backing_off(alloc: Global, ticks: u16) -> Result<Node, Fail> {
 
 /// A coordinator that holds a frame.
 fn sender(alloc: Global) -> Result<Node, Fail> {
-    let mut node = node_of(COORDINATOR, alloc)?;
+    let mut node = node_of(coordinator_set(), alloc)?;
     node.offer(queued(7)?)?;
     Ok(node)
 }

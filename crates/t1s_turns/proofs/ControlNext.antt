@@ -89,7 +89,7 @@ module _ (n : CycleSettings) (is : IsCycleSettings n) (t : ℕ) (ws : List Wave)
           let pair = subst (λ (xs : List Wave). AreBehind n xs) (new.at ∙ ap (λ (xs : List Wave). new.w ∷ xs) e) (behind_arrived n (t + 1) ws behind) in
           absurd (omega (arith, pair.1.gap, pair.1.long, new.from, soon, is.fall_low))
 
-module _ (Sends : ℕ → State → Stage → ℕ → Type 0) (n : CycleSettings) (is : IsCycleSettings n) (begin t now : ℕ) (started : begin ≤ t) (soon : t < now) (ws : List Wave) (behind : AreBehind n ws)
+module _ (Sends : ℕ → ℕ → State → Stage → ℕ → Type 0) (n : CycleSettings) (is : IsCycleSettings n) (begin t now : ℕ) (started : begin ≤ t) (soon : t < now) (ws : List Wave) (behind : AreBehind n ws)
     (each : EachWave (IsWave n now) ws) (first : n.owns 0 ≡ true → OldestWave (IsFirstBeacon n begin) ws) (ready : Bool) where
   abbrev Kept : State → Stage → ℕ → Type 0
   Kept st stage part = ControlOverWaves Sends n begin (t + 1) ws st stage part
@@ -138,13 +138,13 @@ module _ (Sends : ℕ → State → Stage → ℕ → Type 0) (n : CycleSettings
       kind true e wave place = e
       kind false e wave place = absurd (omega (arith, place, (wave.run e).0))
 
-  run_begins : (h : Heard) (a : Wave) (rest : List Wave) (x : ℕ) (st : State) (stage : Stage) (part : ℕ) → BeginsBehind n t ws a rest x → n.owns x ≡ true → Sends 1 st stage part → Hears h true
+  run_begins : (h : Heard) (a : Wave) (rest : List Wave) (x : ℕ) (st : State) (stage : Stage) (part : ℕ) → BeginsBehind n t ws a rest x → n.owns x ≡ true → Sends x 1 st stage part → Hears h true
       → Kept st stage part
   run_begins h a rest x st stage part begins mine sends hears =
       let b = own_behind n is t ws behind h a rest x hears begins in
       let wave = newest_wave (t + 1) b.new.w (arrived t ws) b.new.at in
       owns_run {a = b.new.w} {rest = arrived t ws} {e = 1} b.new.at b.new.own (kind b.new.w.beacon refl wave b.place) (omega (arith, b.new.from, started)) (omega (arith, b.new.lasts))
-      (omega (arith, b.new.from)) sends
+      (omega (arith, b.new.from)) (subst (λ (y : ℕ). Sends y 1 st stage part) b.place sends)
     where
       kind : (f : Bool) {w : Wave} → w.beacon ≡ f → IsWave n now w → x ≡ w.place → w.beacon ≡ false
       kind false e wave place = e

@@ -1,5 +1,5 @@
 -- One tick of control of a node that takes part in the cycle and does not drive.
-use Rattle.std.proofs.Common.{◌≡◌, ℕ, ◌+◌, ◌-◌, ◌==◌, ◌<◌, ◌≤◌, ◌⊎◌, inl, inr, Bool, true, false, ◌&&◌, nat_lt, nat_le, List, ◌∷◌, refl, sym, ◌∙◌, ap, subst, arith}
+use Rattle.std.proofs.Common.{◌≡◌, ℕ, ◌+◌, ◌-◌, ◌==◌, ◌<◌, ◌≤◌, ◌⊎◌, inl, inr, Bool, true, false, ◌&&◌, not, nat_le, List, ◌∷◌, refl, sym, ◌∙◌, ap, subst, arith}
 use Rattle.std.proofs.lemmas.Bool.{cases_lt, cases_eq, cond_both, false≢true}
 use Rattle.std.proofs.lemmas.Bool.Decides.{nat_tests}
 use Rattle.t1s_pcs_tx.specs.declared.TxCmd.{TxCmd}
@@ -8,7 +8,7 @@ use Rattle.plca_control.specs.declared.ControlSet.{ControlSet}
 use Rattle.plca_control.specs.declared.ControlIn.{ControlIn}
 use Rattle.plca_control.specs.declared.State.{State}
 use Rattle.plca_control.specs.declared.State.TheVariants.{Beacon, Syncing, WaitTo, Receive, Drain, Resync}
-use Rattle.plca_control.specs.ControlTable.{reach, control_row, is_beacon}
+use Rattle.plca_control.specs.ControlTable.{mine, coord, reach, control_row, is_beacon}
 use Rattle.t1s_world.specs.Waves.{CycleSettings, IsCycleSettings, Wave, opportunity_start, reads_beacon, next_heard}
 use Rattle.t1s_turns.specs.ControlOverWaves.{WaitingControl, listens, fades, syncs, counts, commit_of}
 use Rattle.t1s_turns.specs.DriveOverWaves.{Lapses}
@@ -22,44 +22,27 @@ pub data OpportunityOutcome (n : CycleSettings) (burst : ℕ) (ready : Bool) (x 
   sleeps : n.owns 0 ≡ false → x ≡ 255 → OpportunityOutcome n burst ready x (Resync, NoCmd)
   waits : x ≤ 254 → (n.owns 0 ≡ true → x < n.count) → (n.owns x ≡ true → ready ≡ false) → OpportunityOutcome n burst ready x (WaitTo x n.to, NoCmd)
 
-module _ (s : ControlSet) (n : CycleSettings) (is : IsCycleSettings n) (same_owns : (x : ℕ) → n.owns x ≡ (x == s.id)) (same_count : s.count ≡ n.count) (same_to : s.to ≡ n.to) where
+module _ (s : ControlSet) (n : CycleSettings) (is : IsCycleSettings n) (same_owns : (x : ℕ) → n.owns x ≡ mine s x) (same_count : s.count ≡ n.count) (same_to : s.to ≡ n.to) where
   abbrev Outcome : Bool → ℕ → State × TxCmd → Type 0
   Outcome ready x next = OpportunityOutcome n s.burst ready x next
 
-  pub coord : (s.id == 0) ≡ n.owns 0
-  coord = elim (cases_eq s.id 0) [
-    | inl e ↦
-        let b : (0 == s.id) ≡ true = grind (arith, nat_tests, e) in
-        let d : (s.id == 0) ≡ true = grind (arith, nat_tests, e) in
-        d ∙ sym (same_owns 0 ∙ b)
-    | inr some ↦
-        let b : (0 == s.id) ≡ false = grind (arith, nat_tests, some) in
-        let d : (s.id == 0) ≡ false = grind (arith, nat_tests, some) in
-        d ∙ sym (same_owns 0 ∙ b)
-  ]
-
-  follows : nat_lt 0 s.id ≡ true → n.owns 0 ≡ false
-  follows e = sym coord ∙ grind (arith, nat_tests, e)
-
-  low : (ready : Bool) (x : ℕ) → x ≤ 255 → s.count ≤ 254 → ((s.id == 0) && nat_le s.count x) ≡ false → (nat_lt 0 s.id && nat_le 255 x) ≡ false → x ≤ 254
-  low ready x few counted before awake = elim (cases_lt x 255) [
-    | inl lt ↦ omega (arith, lt)
-    | inr ge ↦ absurd (grind (arith, nat_tests, before, awake, ge, counted))
-  ]
+  low : (zero : Bool) (x : ℕ) → s.count ≤ 254 → (zero && nat_le s.count x) ≡ false → (not zero && nat_le 255 x) ≡ false → x ≤ 254
+  low true x counted before awake = grind (arith, nat_tests, before, counted)
+  low false x counted before awake = grind (arith, nat_tests, awake)
 
   pub reached : (ready : Bool) (x : ℕ) → x ≤ 255 → Outcome ready x (reach s ready x)
   reached ready x few =
-      let zero = coord in
+      let zero = same_owns 0 in
       let owned = same_owns x in
       let counted : s.count ≤ 254 = omega (arith, same_count, is.count_high) in
-      cond_both ((s.id == 0) && nat_le s.count x) _ _ (Outcome ready x)
+      cond_both (coord s && nat_le s.count x) _ _ (Outcome ready x)
       (λ e. beacons (grind (arith, nat_tests, e, zero)) (grind (arith, nat_tests, e, same_count)))
-      (λ no. cond_both ((x == s.id) && ready) _ _ (Outcome ready x)
+      (λ no. cond_both (mine s x && ready) _ _ (Outcome ready x)
       (λ e. commits (grind (arith, nat_tests, e, owned)) (grind (arith, nat_tests, e)))
-      (λ none. cond_both (nat_lt 0 s.id && nat_le 255 x) _ _ (Outcome ready x)
+      (λ none. cond_both (not (coord s) && nat_le 255 x) _ _ (Outcome ready x)
       (λ e. sleeps (grind (arith, nat_tests, e, zero)) (grind (arith, nat_tests, e, few)))
       (λ awake. subst (λ (m : ℕ). Outcome ready x (WaitTo x m, NoCmd)) (sym same_to)
-      (waits (low ready x few counted no awake) (λ mine. grind (arith, nat_tests, no, zero, mine, same_count)) (λ mine. grind (arith, nat_tests, none, mine, owned))))))
+      (waits (low (coord s) x counted no awake) (λ own. grind (arith, nat_tests, no, zero, own, same_count)) (λ own. grind (arith, nat_tests, none, own, owned))))))
 
   -- What a tick comes to, where `came` are the waves that have come and `crs` is the carrier that control is shown. The node
   -- drives nothing, and waits on behind the wave a or behind a newer one; or it passes all IDs; or it starts to drive as the
@@ -76,7 +59,7 @@ module _ (s : ControlSet) (n : CycleSettings) (is : IsCycleSettings n) (same_own
   from_reach t came a ready x _ at first top past (beacons zero all) =
       let last : x ≡ n.count = (let low = top zero in omega (arith, all, low)) in
       starts_beacon zero (at ∙ ap (opportunity_start n a) last) (omega (arith, first, last))
-  from_reach t came a ready x _ at first top past (commits mine some) = starts_commit x mine at first some
+  from_reach t came a ready x _ at first top past (commits own some) = starts_commit x own at first some
   from_reach t came a ready x _ at first top past (sleeps follower last) = sleeps_in follower (at ∙ ap (opportunity_start n a) last)
   from_reach t came a ready x _ at first top past (waits low more none) =
       goes_on (inl refl) (λ y order now. lapsed y (opportunity_one n a y x (omega (arith, is.to_high, is.rise_low)) order first (sym now ∙ at)))
@@ -84,7 +67,7 @@ module _ (s : ControlSet) (n : CycleSettings) (is : IsCycleSettings n) (same_own
     where
       lapsed : (y : ℕ) → y ≡ x → Lapses n ready y
       lapsed y e = record {
-        own = λ mine. none (subst (λ (z : ℕ). n.owns z ≡ true) e mine);
+        own = λ its. none (subst (λ (z : ℕ). n.owns z ≡ true) e its);
         coordinator = λ zero. let below = more zero in omega (arith, below, e);
       }
 
@@ -129,12 +112,13 @@ module _ (s : ControlSet) (n : CycleSettings) (is : IsCycleSettings n) (same_own
     -- the row of a wave that has gone, by whether it was a beacon
     gone_row : (b : Bool) → reads_beacon a ≡ b → is_beacon i.class ≡ b → i.crs ≡ false → a.own ≡ false → t ≡ a.till + n.fall → a.next ≤ n.count → NextControl t came a i.ready false (control_row s (Receive a.place) i)
     gone_row true flag class off other at low =
-        let more : nat_lt 0 s.id ≡ true = (elim (cases_eq s.id 0) [
-          | inl zero ↦ absurd (false≢true (sym (not_own (sym coord ∙ grind (arith, nat_tests, zero)) other) ∙ flag))
-          | inr some ↦ grind (arith, nat_tests, some)
-        ]) in
-        let row : control_row s (Receive a.place) i ≡ reach s i.ready 0 = rw (off, class, more) refl in
+        let follows : coord s ≡ false = by_coord (coord s) refl in
+        let row : control_row s (Receive a.place) i ≡ reach s i.ready 0 = rw (off, class, follows) refl in
         rw row (ends 0 (next_is (omega (arith, at, is.fall_low)) ∙ rw flag refl) at low)
+      where
+        by_coord : (b : Bool) → coord s ≡ b → b ≡ false
+        by_coord true owns = absurd (false≢true (sym (not_own (same_owns 0 ∙ owns) other) ∙ flag))
+        by_coord false owns = refl
     gone_row false flag class off other at low = rw (off, class) (ends (a.place + 1) (next_is (omega (arith, at, is.fall_low)) ∙ rw flag refl) at low)
 
     pub listening : (b : Bool) → CarrierShown n t came a b → i.crs ≡ b → a.own ≡ false → t ≤ a.till + n.fall → a.next ≤ n.count → NextControl t came a i.ready b (control_row s (Receive a.place) i)
@@ -163,10 +147,9 @@ module _ (s : ControlSet) (n : CycleSettings) (is : IsCycleSettings n) (same_own
     syncing _ (gone now) e own whole after within = let first : a.next ≡ 0 = next_is after ∙ rw whole refl in rw e (ends 0 first (omega (arith, now, within)) (omega (arith, first)))
     syncing _ (caught w rest is_newest theirs at over low high order) e own whole after within = absurd (omega (arith, low, within, opportunity_low n a w.place))
 
-    pub draining : (b : Bool) → CarrierShown n t came a b → i.crs ≡ b → a.own ≡ true → a.beacon ≡ false → n.owns a.place ≡ true → a.till < t → t ≤ a.till + n.fall → NextControl t came a i.ready b (control_row s Drain i)
-    draining _ (lasts_on before) e own flag mine after within = rw e (goes_on (inr before) (none_begins t a i.ready before) (fades {a = a} own flag mine (omega (arith, after)) (omega (arith, before))))
-    draining _ (gone now) e own flag mine after within =
-        let is_mine : a.place ≡ s.id = (let b = sym (same_owns a.place) ∙ mine in grind (arith, nat_tests, b)) in
-        let first : a.next ≡ s.id + 1 = next_is after ∙ rw (flag, is_mine) refl in
-        rw e (ends (s.id + 1) first (omega (arith, now, within)) (omega (arith, first, is_mine, is.low_ids a.place mine, is.count_high)))
-    draining _ (caught w rest is_newest theirs at over low high order) e own flag mine after within = absurd (omega (arith, low, within, opportunity_low n a w.place))
+    pub draining : (b : Bool) → CarrierShown n t came a b → i.crs ≡ b → a.own ≡ true → a.beacon ≡ false → n.owns a.place ≡ true → a.till < t → t ≤ a.till + n.fall → NextControl t came a i.ready b (control_row s (Drain a.place) i)
+    draining _ (lasts_on before) e own flag own_id after within = rw e (goes_on (inr before) (none_begins t a i.ready before) (fades {a = a} own flag own_id (omega (arith, after)) (omega (arith, before))))
+    draining _ (gone now) e own flag own_id after within =
+        let first : a.next ≡ a.place + 1 = next_is after ∙ rw flag refl in
+        rw e (ends (a.place + 1) first (omega (arith, now, within)) (omega (arith, first, is.low_ids a.place own_id)))
+    draining _ (caught w rest is_newest theirs at over low high order) e own flag own_id after within = absurd (omega (arith, low, within, opportunity_low n a w.place))

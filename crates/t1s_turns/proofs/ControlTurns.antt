@@ -14,7 +14,7 @@ use Rattle.plca_control.specs.declared.ControlSet.{ControlSet}
 use Rattle.plca_control.specs.declared.ControlIn.{ControlIn}
 use Rattle.plca_control.specs.declared.State.{State}
 use Rattle.plca_control.specs.declared.State.TheVariants.{Recover, Resync, Early, Beacon, Syncing, Commit, Transmit, Burst as Pause}
-use Rattle.plca_control.specs.ControlTable.{control_row, reach, is_beacon, is_own, is_active, is_closed_good}
+use Rattle.plca_control.specs.ControlTable.{mine, control_row, reach, is_beacon, is_own, is_active, is_closed_good}
 use Rattle.t1s_node.specs.declared.carrier.Carrier.{Carrier}
 use Rattle.t1s_node.proofs.OwnDrives.{drives_first}
 use Rattle.t1s_world.specs.Waves.{CycleSettings, IsCycleSettings, Wave, Behind, AreBehind, IsWave, EachWave, OldestWave, IsFirstBeacon, IsAlive, arrived, seen, lag, opportunity_start, reads_beacon}
@@ -106,7 +106,7 @@ no_loop v w rest e = let lengths = ap (λ (xs : List Wave). length xs) e in absu
 
 -- ---- the drive phase
 
-module _ (s : ControlSet) (n : CycleSettings) (is : IsCycleSettings n) (same_owns : (x : ℕ) → n.owns x ≡ (x == s.id)) (same_count : s.count ≡ n.count) (same_to : s.to ≡ n.to)
+module _ (s : ControlSet) (n : CycleSettings) (is : IsCycleSettings n) (same_owns : (x : ℕ) → n.owns x ≡ mine s x) (same_count : s.count ≡ n.count) (same_to : s.to ≡ n.to)
     (begin t now : ℕ) (soon : t ≤ now) (ws : List Wave) (behind : AreBehind n ws) (each : EachWave (IsWave n now) ws)
     (first : n.owns 0 ≡ true → OldestWave (IsFirstBeacon n begin) ws) (alive : IsAlive n now ws)
     (i : ControlIn) (c : Carrier) (burst : Burst) (shown : i.crs ≡ c.on) (carrier : CarrierOverWaves n begin t (arrived t ws) c) (receiver : ReceiverOverWaves n begin t (arrived t ws) i.class burst)
@@ -279,10 +279,10 @@ module _ (s : ControlSet) (n : CycleSettings) (is : IsCycleSettings n) (same_own
   next_to _ a rest _ newest known there over none (sleeps_in follower at) = absurd (never_asleep n is begin t now soon ws behind each a rest newest alive (none refl) at)
   next_to _ a rest _ newest known there over none (starts_beacon zero at order) =
       beacon_to (Beacon 20) (begins_beacon a rest (record { newest = newest; order = order; now = at; none_risen = none refl }) zero)
-  next_to _ a rest _ newest known there over none (starts_commit x mine at order ready) =
+  next_to _ a rest _ newest known there over none (starts_commit x own at order ready) =
       let turn = turn_of part past ended bad line Quiet CommitCmd in
-      subst (λ (y : Option Quarter). Comes (Commit 288 s.burst) turn.state.stage turn.state.part y) (sym (first_quarter part past ended bad line))
-      (begins_run a rest x (record { newest = newest; order = order; now = at; none_risen = none refl }) mine ready (drives_first part past ended bad line))
+      subst (λ (y : Option Quarter). Comes (Commit x 288 s.burst) turn.state.stage turn.state.part y) (sym (first_quarter part past ended bad line))
+      (begins_run a rest x (record { newest = newest; order = order; now = at; none_risen = none refl }) own ready (record { id = refl; driving = drives_first part past ended bad line }))
 
   -- an own wave behind which a node waits has ended
   waiting_over : (a : Wave) (st : State) → WaitingControl n t a st → a.own ≡ true → a.till < t
@@ -348,7 +348,7 @@ module _ (s : ControlSet) (n : CycleSettings) (is : IsCycleSettings n) (same_own
 
   -- ---- every case
 
-  pub drive_turn : (st : State) (stage : Stage) → (is_active st ≡ false → i.ready ≡ false) → ((e : ℕ) → SendsRun e st stage part → RunPlace i st stage part) → ControlOverWaves SendsRun n begin t ws st stage part → TurnTo stage (control_row s st i)
+  pub drive_turn : (st : State) (stage : Stage) → (is_active st ≡ false → i.ready ≡ false) → ((x e : ℕ) → SendsRun x e st stage part → RunPlace i st stage part) → ControlOverWaves SendsRun n begin t ws st stage part → TurnTo stage (control_row s st i)
   drive_turn _ _ idle place (recovers {q = q} zero at low) = recovering q (idle refl) zero at low
   drive_turn _ _ idle place (waits_for_beacon zero none) = waiting_for_beacon i.crs refl (idle refl) zero none
   drive_turn _ _ idle place (hears_first_wave {w = w} {rest = rest} zero none at rose long within) =
@@ -356,7 +356,7 @@ module _ (s : ControlSet) (n : CycleSettings) (is : IsCycleSettings n) (same_own
   drive_turn _ _ idle place (owns_beacon {a = a} {rest = rest} {left = left} symbols zero at own flag from within time low left_is some) =
       beaconing a rest symbols left zero at own flag from within time low left_is some
   drive_turn st stage idle place (owns_run {a = a} {rest = rest} {e = e} at own flag from within time sends) =
-      run_turn part past ended bad line s n begin t ws i st stage (place e sends) a rest e at own flag from within time sends
+      run_turn part past ended bad line s n begin t ws i st stage (place a.place e sends) a rest e at own flag from within time sends
   drive_turn st _ idle place (waits {a = a} {rest = rest} newest there state) = waiting a rest st newest there state
 
   -- ---- control goes on to take part
@@ -379,9 +379,9 @@ module _ (s : ControlSet) (n : CycleSettings) (is : IsCycleSettings n) (same_own
   Active next = is_active next.0 ≡ true
 
   own_active : (st : State) → is_own st ≡ true → Active (control_row s st i)
-  own_active (Commit m b) own = cond_both i.begun _ _ Active (λ _. refl) (λ _. cond_both (m == 1) _ _ Active (λ _. refl) (λ _. refl))
-  own_active (Transmit b) own = cond_both (is_closed_good i.tx && nat_lt 0 b) _ _ Active (λ _. refl) (λ _. cond_both (is_closed i.tx) _ _ Active (λ _. refl) (λ _. refl))
-  own_active (Pause m b) own = cond_both i.begun _ _ Active (λ _. refl) (λ _. cond_both (m == 1) _ _ Active (λ _. refl) (λ _. refl))
+  own_active (Commit x m b) own = cond_both i.begun _ _ Active (λ _. refl) (λ _. cond_both (m == 1) _ _ Active (λ _. refl) (λ _. refl))
+  own_active (Transmit x b) own = cond_both (is_closed_good i.tx && nat_lt 0 b) _ _ Active (λ _. refl) (λ _. cond_both (is_closed i.tx) _ _ Active (λ _. refl) (λ _. refl))
+  own_active (Pause x m b) own = cond_both i.begun _ _ Active (λ _. refl) (λ _. cond_both (m == 1) _ _ Active (λ _. refl) (λ _. refl))
   own_active _ own = absurd (false≢true own)
 
   pub active_stays : (st : State) (stage : Stage) → ControlOverWaves SendsRun n begin t ws st stage part → is_active st ≡ true → Active (control_row s st i)
@@ -389,7 +389,7 @@ module _ (s : ControlSet) (n : CycleSettings) (is : IsCycleSettings n) (same_own
   active_stays _ _ (waits_for_beacon zero none) on = absurd (false≢true on)
   active_stays _ _ (hears_first_wave zero none at rose long within) on = absurd (false≢true on)
   active_stays _ _ (owns_beacon {left = left} symbols zero at own flag from within time low left_is some) on = cond_both (left == 1) _ _ Active (λ _. refl) (λ _. refl)
-  active_stays st stage (owns_run {e = e} at own flag from within time sends) on = own_active st (sends_own e st stage part sends)
+  active_stays st stage (owns_run {a = a} {e = e} at own flag from within time sends) on = own_active st (sends_own a.place e st stage part sends)
   active_stays st _ (waits {a = a} {rest = rest} newest there state) on =
       let knows = knows_of n is begin t now soon ws behind each a rest newest there in
       let wave = seen_wave n is begin t now soon ws behind each a rest newest in

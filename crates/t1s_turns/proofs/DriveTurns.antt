@@ -11,7 +11,7 @@ use Rattle.t1s_turns.specs.ReceiverOverWaves.{SpellsWave}
 use Rattle.t1s_turns.specs.ControlOverWaves.{WaitingControl, WasThere, NoOwnWave, drain_of}
 use Rattle.t1s_turns.specs.DriveOverWaves.{IsQuiet, DriveOverWaves, quiet, goes_on, ends, starts_first_beacon, starts_beacon, starts_run}
 
-module _ (Sends : ℕ → State → Stage → ℕ → Type 0) (n : CycleSettings) (begin t : ℕ) (ws : List Wave) (ready : Bool) where
+module _ (Sends : ℕ → ℕ → State → Stage → ℕ → Type 0) (n : CycleSettings) (begin t : ℕ) (ws : List Wave) (ready : Bool) where
   abbrev Quietly : Type 0
   Quietly = IsQuiet n begin t ws ready
 
@@ -26,7 +26,7 @@ module _ (Sends : ℕ → State → Stage → ℕ → Type 0) (n : CycleSettings
     beacon_ends : {part : ℕ} (a : Wave) (rest : List Wave) → arrived t ws ≡ a ∷ rest → a.own ≡ true → a.beacon ≡ true → begin ≤ a.from → t ≤ a.till → a.from + 20 ≡ t
         → DriveTurn Syncing Quiet part None
     run_goes_on : {e part : ℕ} {st : State} {stage : Stage} {q : Quarter} (a : Wave) (rest : List Wave) → arrived t ws ≡ a ∷ rest → a.own ≡ true → a.beacon ≡ false → begin ≤ a.from → t ≤ a.till
-        → a.from + e ≡ t → Sends (e + 1) st stage part → SpellsWave a e q → DriveTurn st stage part (Some q)
+        → a.from + e ≡ t → Sends a.place (e + 1) st stage part → SpellsWave a e q → DriveTurn st stage part (Some q)
     run_ends : {part : ℕ} (a : Wave) (rest : List Wave) → arrived t ws ≡ a ∷ rest → a.own ≡ true → a.beacon ≡ false → begin ≤ a.from → t ≤ a.till → a.from + 20 ≤ t
         → DriveTurn (drain_of a.place) Quiet part None
     waits_on : {part : ℕ} {st : State} (a : Wave) (rest : List Wave) → seen n t ws ≡ a ∷ rest → WasThere n begin (t + 1) a → ((v : Wave) → arrived t ws ≡ v ∷ a ∷ rest → t < v.from + n.rise)
@@ -34,7 +34,7 @@ module _ (Sends : ℕ → State → Stage → ℕ → Type 0) (n : CycleSettings
     catches : {part : ℕ} {st : State} (w a : Wave) (rest : List Wave) → arrived t ws ≡ w ∷ a ∷ rest → begin < a.till → t ≡ w.from + n.rise
         → WaitingControl n (t + 1) w st → Quietly → DriveTurn st Quiet part None
     begins_beacon : (a : Wave) (rest : List Wave) → BeginsBehind n t ws a rest n.count → n.owns 0 ≡ true → DriveTurn (Beacon 20) Beaconing 0 (Some (record { sym = N; part = 0 }))
-    begins_run : {part : ℕ} {st : State} {stage : Stage} (a : Wave) (rest : List Wave) (x : ℕ) → BeginsBehind n t ws a rest x → n.owns x ≡ true → ready ≡ true → Sends 1 st stage part
+    begins_run : {part : ℕ} {st : State} {stage : Stage} (a : Wave) (rest : List Wave) (x : ℕ) → BeginsBehind n t ws a rest x → n.owns x ≡ true → ready ≡ true → Sends x 1 st stage part
         → DriveTurn st stage part (Some (record { sym = J; part = 0 }))
 
   beacon_spells : (a : Wave) (symbols part : ℕ) → a.beacon ≡ true → part < 4 → SpellsWave a (4 * symbols + part) (record { sym = N; part = part })

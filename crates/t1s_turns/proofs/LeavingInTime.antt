@@ -1,8 +1,9 @@
 -- A frame of a node's queue leaves in time: the first from wherever it is on its way, and each other one behind it.
-use Rattle.std.proofs.Common.{◌≡◌, ℕ, zero, suc, ◌+◌, ◌-◌, ◌*◌, ◌<◌, ◌≤◌, ◌⊎◌, inl, inr, true, false, List, length, slice_get, Some, refl, sym, ap, subst, arith}
+use Rattle.std.proofs.Common.{◌≡◌, ℕ, zero, suc, ◌+◌, ◌-◌, ◌*◌, ◌≤◌, ◌⊎◌, inl, inr, true, false, List, length, slice_get, Some, refl, sym, ap, subst, arith}
 use Rattle.std.specs.List.{All}
 use Rattle.t1s_frame.specs.Frame.{IsFrame, nibble_list}
 use Rattle.t1s_ring.specs.declared.queued.Queued.{Queued}
+use Rattle.plca_control.specs.ControlTable.{mine}
 use Rattle.t1s_mac.specs.PickedDraws.{picked_answer, picked_after}
 use Rattle.t1s_mac.specs.declared.outcome.MacNote.TheVariants.{Sent}
 use Rattle.t1s_mac.specs.declared.picked_draws.PickedDraws.{PickedDraws}
@@ -21,12 +22,12 @@ use Rattle.t1s_node.proofs.MacTurns.{Fit, head_of, count_of, long, first_same}
 use Rattle.t1s_node.proofs.RunPlaces.{RunAt, Since, ticks}
 use Rattle.t1s_world.specs.Waves.{Wave, EachWave, AreWaves}
 use Rattle.t1s_turns.specs.NextOpportunity.{LastsAtMost}
-use Rattle.t1s_turns.specs.NodeOverWaves.{cycle_of, started, HearsWaves}
+use Rattle.t1s_turns.specs.NodeOverWaves.{cycle_of, HasLowIds, started, HearsWaves}
 use Rattle.t1s_turns.proofs.FrameWait.{AtRest, starts_soon, moves_up, some_first}
 use Rattle.t1s_turns.proofs.FrameWay.{HasShortWait, Whereabouts, not_begun, on_way, waits_for_turn, opens_now, has_left, whereabouts, head_frame, first_run, run_on, Comes, comes, opening_comes, turn_pends, piece_comes, sent_by_end}
 use Rattle.t1s_turns.proofs.TurnTaken.{calm, quiet_tick, commits_in_time}
 
-module _ (set : NodeSet) (is_set : IsNodeSet set) (low_id : set.control.id < set.control.count) (room : ℕ) (draws : PickedDraws) (given : ℕ → NodeTick)
+module _ (set : NodeSet) (is_set : IsNodeSet set) (low_ids : HasLowIds set) (own_id : ℕ) (owned : mine set.control own_id ≡ true) (room : ℕ) (draws : PickedDraws) (given : ℕ → NodeTick)
     (frames : (u : ℕ) → All (λ (q : Queued). IsFrame q.frame) (given u).offers) (begin end : ℕ) (ws : List Wave)
     (waves : AreWaves (cycle_of set) begin (begin + end) ws) (hears : HearsWaves set room draws given begin (begin + end) ws)
     (longest unit : ℕ) (most : EachWave (LastsAtMost longest) ws) (big : set.control.to + (longest + set.fall) ≤ unit) where
@@ -46,7 +47,7 @@ module _ (set : NodeSet) (is_set : IsNodeSet set) (low_id : set.control.id < set
   left t = left_at picked_answer picked_after start told t
 
   abbrev still : IsUndisturbed picked_answer picked_after start told end
-  still = calm set is_set low_id room draws given frames begin end ws waves hears
+  still = calm set is_set low_ids room draws given frames begin end ws waves hears
 
   abbrev Run : ℕ → Type 0
   Run t = RunAt picked_answer picked_after still.draws start told end still t
@@ -81,7 +82,7 @@ module _ (set : NodeSet) (is_set : IsNodeSet set) (low_id : set.control.id < set
 
   pends_leaves : (f : Queued) (v : ℕ) → v + 114 + cycle ≤ end → Active v → PendsAt picked_answer picked_after start told f v → (x : ℕ) × (v ≤ x) × (x ≤ v + 113 + cycle) × Leaves f x
   pends_leaves f v within active pending =
-      let (c, low, high, commits) = commits_in_time set is_set low_id room draws given frames begin end ws waves hears longest unit most big start_run f v (omega (arith, within)) active pending in
+      let (c, low, high, commits) = commits_in_time set is_set low_ids room draws given frames begin end ws waves hears longest unit most big own_id owned start_run f v (omega (arith, within)) active pending in
       let (g, again, k, least, few, leaves) = leaves_once_committed picked_answer picked_after still.draws start told end still start_run c (omega (arith, high, within)) commits.from commits.commits in
       let same : g ≡ f = first_same (left c).mac.queue g f again.first commits.first in
       (c + k, omega (arith, low), omega (arith, high, few), subst (λ (x : Queued). Leaves x (c + k)) same leaves)
@@ -105,7 +106,7 @@ module _ (set : NodeSet) (is_set : IsNodeSet set) (low_id : set.control.id < set
 
   not_begun_yet : (f : Queued) (t : ℕ) → t + early + 1 ≤ end → Active t → AtRest f (found t) → FirstFrame f t
   not_begun_yet f t within active h =
-      let silent = quiet_tick set is_set low_id room draws given frames begin end ws waves hears longest unit most big t (omega (arith, within)) in
+      let silent = quiet_tick set is_set low_ids room draws given frames begin end ws waves hears longest unit most big t (omega (arith, within)) in
       let on : Active silent.y = still.stays_active t silent.y silent.from (omega (arith, silent.to, within)) active in
       let begins = starts_soon picked_answer picked_after set.control room draws told end still fits f t silent.y silent.from (omega (arith, silent.to, within)) h on silent.unowned silent.silence in
       let (g, heads, k, least, few, there) = leaves_or_pends picked_answer picked_after still.draws start told end still start_run begins.s (omega (arith, begins.to, silent.to, within)) begins.starts in

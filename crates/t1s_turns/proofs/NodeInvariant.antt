@@ -1,5 +1,5 @@
 -- One tick of a node over waves: what it keeps is again what the waves say.
-use Rattle.std.proofs.Common.{◌≡◌, ℕ, ◌+◌, ◌==◌, ◌<◌, ◌≤◌, ◌⊎◌, inl, inr, Bool, true, false, ◌&&◌, ◌||◌, nat_lt, List, [], ◌∷◌, refl, sym, ◌∙◌, ap, subst, arith, rules}
+use Rattle.std.proofs.Common.{◌≡◌, ℕ, ◌+◌, ◌<◌, ◌≤◌, ◌⊎◌, inl, inr, Bool, true, false, ◌&&◌, ◌||◌, nat_lt, List, [], ◌∷◌, refl, sym, ◌∙◌, ap, subst, arith, rules}
 use Rattle.std.specs.List.{All}
 use Rattle.std.specs.Prelude.{is_some}
 use Rattle.std.proofs.lemmas.List.Elements.{All-head, All-tail}
@@ -16,7 +16,7 @@ use Rattle.plca_control.specs.declared.ControlIn.{ControlIn}
 use Rattle.plca_control.specs.declared.State.{State}
 use Rattle.plca_control.specs.declared.StatusState.{StatusState}
 use Rattle.plca_control.specs.declared.StatusState.TheVariants.{Inactive, Active, Hysteresis}
-use Rattle.plca_control.specs.ControlTable.{control_row, is_active}
+use Rattle.plca_control.specs.ControlTable.{mine, control_row, is_active}
 use Rattle.plca_control.specs.StatusTable.{status_step, status_is_ok}
 use Rattle.plca_data.specs.declared.data_path.State.{State as PathState}
 use Rattle.plca_data.specs.DataPathTable.{ready, begun, ended, bad}
@@ -39,7 +39,7 @@ use Rattle.t1s_world.proofs.ArrivedWaves.{are_apart}
 use Rattle.t1s_turns.specs.CarrierOverWaves.{CarrierOverWaves}
 use Rattle.t1s_turns.specs.ReceiverOverWaves.{ReceiverOverWaves, HeardOverWaves, nobody, drives, rests, theirs}
 use Rattle.t1s_turns.specs.ControlOverWaves.{ControlOverWaves}
-use Rattle.t1s_turns.specs.NodeOverWaves.{cycle_of}
+use Rattle.t1s_turns.specs.NodeOverWaves.{cycle_of, HasLowIds}
 use Rattle.t1s_turns.proofs.CarrierSteps.{carrier_next}
 use Rattle.t1s_turns.proofs.ReceiverSteps.{receiver_next}
 use Rattle.t1s_turns.proofs.ControlNext.{control_kept}
@@ -138,19 +138,16 @@ status_next Active was false ok stays = absurd (false≢true (stays (sym ok)))
 status_next (Hysteresis k) was true ok stays = refl
 status_next (Hysteresis k) was false ok stays = absurd (false≢true (stays (sym ok)))
 
-module _ (set : NodeSet) (is_set : IsNodeSet set) (low_id : set.control.id < set.control.count) (begin : ℕ) (ws : List Wave) where
+module _ (set : NodeSet) (is_set : IsNodeSet set) (low_ids : HasLowIds set) (begin : ℕ) (ws : List Wave) where
   pub is_cycle : IsCycleSettings (cycle_of set)
   is_cycle = record {
-    low_ids = λ x e. low x e;
+    low_ids = low_ids;
     count_high = is_set.control.count_high;
     rise_low = is_set.rise_low;
     rise_high = is_set.rise_high;
     fall_low = is_set.fall_low;
     to_high = omega (arith, is_set.rise_high, is_set.control.to_low);
   }
-    where
-      low : (x : ℕ) → (x == set.control.id) ≡ true → x < set.control.count
-      low x e = grind (arith, nat_tests, e, low_id)
 
   -- what the node keeps as tick t of the world finds it
   pub record NodeInvariant (t : ℕ) (x : NodeState) : Type 0 where
@@ -198,12 +195,12 @@ module _ (set : NodeSet) (is_set : IsNodeSet set) (low_id : set.control.id < set
     abbrev pub drive : CoreDrive PickedDraws
     drive = core_drive picked_answer picked_after (reading_of x) x.core
 
-    run_place : (e : ℕ) → SendsRun e x.core.control.state x.core.tx.stage x.core.tx.part → RunPlace input x.core.control.state x.core.tx.stage x.core.tx.part
-    run_place e sends = record {
+    run_place : (y e : ℕ) → SendsRun y e x.core.control.state x.core.tx.stage x.core.tx.part → RunPlace input x.core.control.state x.core.tx.stage x.core.tx.part
+    run_place y e sends = record {
       counted = h.stands.counted;
       closes = refl;
-      commits = λ m view none. commits_there h.place _ _ _ _ _ _ _ _ _ sends.y m h.stands.joint sends.late view none;
-      pauses = λ m view none. pauses_there h.place _ _ _ _ _ _ _ _ _ sends.y m h.stands.joint sends.late view none;
+      commits = λ m view none. commits_there h.place _ _ _ _ _ _ _ _ _ sends.driving.y m h.stands.joint sends.driving.late view none;
+      pauses = λ m view none. pauses_there h.place _ _ _ _ _ _ _ _ _ sends.driving.y m h.stands.joint sends.driving.late view none;
     }
 
     idle : is_active x.core.control.state ≡ false → ready x.core.path ≡ false
@@ -212,8 +209,8 @@ module _ (set : NodeSet) (is_set : IsNodeSet set) (low_id : set.control.id < set
       | inr on ↦ absurd (false≢true (sym off ∙ on))
     ]
 
-    same_owns : (y : ℕ) → (cycle_of set).owns y ≡ (y == x.core.control.set.id)
-    same_owns y = ap (λ (s : ControlSet). y == s.id) (sym h.set_is)
+    same_owns : (y : ℕ) → (cycle_of set).owns y ≡ mine x.core.control.set y
+    same_owns y = ap (λ (s : ControlSet). mine s y) (sym h.set_is)
 
     same_count : x.core.control.set.count ≡ (cycle_of set).count
     same_count = ap (λ (s : ControlSet). s.count) h.set_is

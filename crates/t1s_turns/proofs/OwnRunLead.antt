@@ -129,19 +129,19 @@ commit_boundary s e = rw e refl
 -- ---- the further frames that an opportunity may have
 
 abbrev pub budget : ControlStage → ℕ
-budget (Commit n b) = b
-budget (Transmit b) = b
-budget (Burst n b) = b
+budget (Commit c n b) = b
+budget (Transmit c b) = b
+budget (Burst c n b) = b
 budget _ = 0
 
 pub budget_stays : (s : ControlSet) (st : ControlStage) (i : ControlIn) → is_own st ≡ true → is_own (control_row s st i).0 ≡ true → is_closed i.tx ≡ false → budget (control_row s st i).0 ≡ budget st
-budget_stays s (Commit n b) i own next going = search (rules, nat_tests)
-budget_stays s (Burst n b) i own next going = search (rules, nat_tests)
-budget_stays s (Transmit b) i own next going = let bad : is_closed_good i.tx ≡ false = not_good i.tx going in rw (bad, going) refl
+budget_stays s (Commit c n b) i own next going = search (rules, nat_tests)
+budget_stays s (Burst c n b) i own next going = search (rules, nat_tests)
+budget_stays s (Transmit c b) i own next going = let bad : is_closed_good i.tx ≡ false = not_good i.tx going in rw (bad, going) refl
 budget_stays s _ i own next going = absurd (cc)
 
 pub budget_falls : (s : ControlSet) (st : ControlStage) (i : ControlIn) (n : ℕ) → view_of st ≡ InTransmit → view_of (control_row s st i).0 ≡ InPause n → budget st ≡ suc (budget (control_row s st i).0)
-budget_falls s (Transmit b) i n own next = search (rules, nat_tests)
+budget_falls s (Transmit c b) i n own next = search (rules, nat_tests)
 budget_falls s _ i n own next = absurd (cc)
 
 -- ---- the J that are driven

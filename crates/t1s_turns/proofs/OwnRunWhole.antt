@@ -171,7 +171,7 @@ module _ {D : Type 0} (answer : D → ℕ → ℕ) (after : D → D) (bounded : 
         budgeted =
             let away = view_own (found t).control.state ∙ outside in
             let next_own = sym (ap is_own (control_left answer after start given t)) ∙ (sym (own_state answer after bounded start given end calm t) ∙ own) in
-            ap budget (control_left answer after start given t ∙ (own_from (found t).control.set (control_in (given t).reading (found t)) (found t).control.state away next_own).1) ∙ set_burst
+            ap budget (control_left answer after start given t ∙ (own_from (found t).control.set (control_in (given t).reading (found t)) (found t).control.state away next_own).1.1) ∙ set_burst
 
         lead_whole : IsTrue (at_boundary (found t).tx) → LeadEnd answer after bounded start given end calm false t burst (t + 101) → Whole t burst
         lead_whole edge (pops_at lead) =

@@ -1,5 +1,5 @@
 -- One tick of control and transmitter while the node's own opportunity lasts.
-use Rattle.std.proofs.Common.{◌≡◌, ℕ, ◌+◌, ◌==◌, ◌≤◌, Bool, true, false, ◌&&◌, nat_lt, IsTrue, List, [], ◌∷◌, Option, Some, None, refl, sym, ◌∙◌, subst, arith}
+use Rattle.std.proofs.Common.{◌≡◌, ℕ, ◌+◌, ◌==◌, ◌≤◌, Bool, true, false, ◌&&◌, nat_lt, IsTrue, List, [], ◌∷◌, Option, Some, None, refl, sym, ap, ◌∙◌, subst, arith}
 use Rattle.std.proofs.lemmas.Bool.{cond_both, false≢true}
 use Rattle.t1s_symbols.specs.declared.Quarter.{Quarter}
 use Rattle.t1s_symbols.specs.declared.Symbol.TheVariants.{J}
@@ -18,9 +18,17 @@ use Rattle.t1s_world.specs.Waves.{CycleSettings, Wave, arrived}
 use Rattle.t1s_turns.proofs.TransmitterTurns.{turn_of, drives_state, run_quarter}
 use Rattle.t1s_turns.proofs.DriveTurns.{DriveTurn, run_goes_on, run_ends}
 
--- what is kept of a run, e ticks after its own opportunity began
-abbrev pub SendsRun : ℕ → State → Stage → ℕ → Type 0
-SendsRun e st stage part = Driving e (view_of st) stage part
+-- the ID of an opportunity that the node has taken
+abbrev pub id_of : State → ℕ
+id_of (Commit c n b) = c
+id_of (Transmit c b) = c
+id_of (Burst c n b) = c
+id_of _ = 0
+
+-- what is kept of a run, e ticks after its own opportunity of ID x began
+pub record SendsRun (x e : ℕ) (st : State) (stage : Stage) (part : ℕ) : Type 0 where
+  pub id : id_of st ≡ x
+  pub driving : Driving e (view_of st) stage part
 
 -- what the node's place says beside it
 pub record RunPlace (i : ControlIn) (st : State) (stage : Stage) (part : ℕ) : Type 0 where
@@ -34,21 +42,33 @@ paced_own y part stage _ (in_commit at) = refl
 paced_own y part stage _ in_transmit = refl
 paced_own y part stage _ (in_pause z late some aligned) = refl
 
-pub sends_own : (e : ℕ) (st : State) (stage : Stage) (part : ℕ) → SendsRun e st stage part → is_own st ≡ true
-sends_own e st stage part h = view_own st ∙ paced_own h.y part stage (view_of st) h.paced
+pub sends_own : (x e : ℕ) (st : State) (stage : Stage) (part : ℕ) → SendsRun x e st stage part → is_own st ≡ true
+sends_own x e st stage part h = view_own st ∙ paced_own h.driving.y part stage (view_of st) h.driving.paced
 
--- an own opportunity that ends goes to Drain
-drains : (s : ControlSet) (st : State) (i : ControlIn) → is_own st ≡ true → is_own (control_row s st i).0 ≡ false → (control_row s st i).0 ≡ Drain
-drains s (Commit n b) i own =
-    cond_both i.begun _ _ (λ (x : State × TxCmd). is_own x.0 ≡ false → x.0 ≡ Drain) (λ _ e. absurd (false≢true (sym e)))
-    (λ _. cond_both (n == 1) _ _ (λ (x : State × TxCmd). is_own x.0 ≡ false → x.0 ≡ Drain) (λ _ e. refl) (λ _ e. absurd (false≢true (sym e))))
-drains s (Transmit b) i own =
-    cond_both (is_closed_good i.tx && nat_lt 0 b) _ _ (λ (x : State × TxCmd). is_own x.0 ≡ false → x.0 ≡ Drain) (λ _ e. absurd (false≢true (sym e)))
-    (λ _. cond_both (is_closed i.tx) _ _ (λ (x : State × TxCmd). is_own x.0 ≡ false → x.0 ≡ Drain) (λ _ e. refl) (λ _ e. absurd (false≢true (sym e))))
-drains s (Burst n b) i own =
-    cond_both i.begun _ _ (λ (x : State × TxCmd). is_own x.0 ≡ false → x.0 ≡ Drain) (λ _ e. absurd (false≢true (sym e)))
-    (λ _. cond_both (n == 1) _ _ (λ (x : State × TxCmd). is_own x.0 ≡ false → x.0 ≡ Drain) (λ _ e. refl) (λ _ e. absurd (false≢true (sym e))))
-drains s _ i own = absurd (false≢true own)
+-- an own opportunity goes on as that of its ID, or ends in the Drain of that
+data OwnTurn (c : ℕ) : State → Type 0 where
+  goes_on : {st : State} → is_own st ≡ true → id_of st ≡ c → OwnTurn c st
+  drains : OwnTurn c (Drain c)
+
+own_turns : (s : ControlSet) (st : State) (i : ControlIn) → is_own st ≡ true → OwnTurn (id_of st) (control_row s st i).0
+own_turns s (Commit c n b) i own =
+    cond_both i.begun _ _ (λ (x : State × TxCmd). OwnTurn c x.0) (λ _. goes_on refl refl)
+    (λ _. cond_both (n == 1) _ _ (λ (x : State × TxCmd). OwnTurn c x.0) (λ _. drains) (λ _. goes_on refl refl))
+own_turns s (Transmit c b) i own =
+    cond_both (is_closed_good i.tx && nat_lt 0 b) _ _ (λ (x : State × TxCmd). OwnTurn c x.0) (λ _. goes_on refl refl)
+    (λ _. cond_both (is_closed i.tx) _ _ (λ (x : State × TxCmd). OwnTurn c x.0) (λ _. drains) (λ _. goes_on refl refl))
+own_turns s (Burst c n b) i own =
+    cond_both i.begun _ _ (λ (x : State × TxCmd). OwnTurn c x.0) (λ _. goes_on refl refl)
+    (λ _. cond_both (n == 1) _ _ (λ (x : State × TxCmd). OwnTurn c x.0) (λ _. drains) (λ _. goes_on refl refl))
+own_turns s _ i own = absurd (false≢true own)
+
+turned_id : (c : ℕ) (st : State) → OwnTurn c st → is_own st ≡ true → id_of st ≡ c
+turned_id c _ (goes_on own same) e = same
+turned_id c _ drains e = absurd (false≢true e)
+
+drained : (c : ℕ) (st : State) → OwnTurn c st → is_own st ≡ false → st ≡ Drain c
+drained c _ (goes_on own same) e = absurd (false≢true (sym e ∙ own))
+drained c _ drains e = refl
 
 -- the first quarter of a run is one of J
 pub first_quarter : (part : ℕ) (past : List Bool) (ended bad : Bool) (line : List ℕ) → (turn_of part past ended bad line Quiet CommitCmd).driven ≡ Some (record { sym = J; part = 0 })
@@ -65,23 +85,27 @@ module _ (part : ℕ) (past : List Bool) (ended bad : Bool) (line : List ℕ) wh
     Drives st' cmd =
         DriveTurn SendsRun n begin t ws i.ready st' (turn_of part past ended bad line stage cmd).state.stage (turn_of part past ended bad line stage cmd).state.part (turn_of part past ended bad line stage cmd).driven
 
-    pub run_turn : (a : Wave) (rest : List Wave) (e : ℕ) → arrived t ws ≡ a ∷ rest → a.own ≡ true → a.beacon ≡ false → begin ≤ a.from → t ≤ a.till → a.from + e ≡ t → SendsRun e st stage part
+    pub run_turn : (a : Wave) (rest : List Wave) (e : ℕ) → arrived t ws ≡ a ∷ rest → a.own ≡ true → a.beacon ≡ false → begin ≤ a.from → t ≤ a.till → a.from + e ≡ t → SendsRun a.place e st stage part
         → Drives next (control_row s st i).1
     run_turn a rest e at own flag from within time sends =
         subst (λ cmd. Drives next cmd) (sym (view_cmd s st i)) (go (own_of (view_of next)) refl)
       where
+        turned : OwnTurn (id_of st) next
+        turned = own_turns s st i (sends_own a.place e st stage part sends)
+
         goes : own_of (view_of next) ≡ true → Drives next (cmd_of (view_of next))
         goes e' =
-            let sent = drives_on i.ready i.begun (is_closed i.tx) e (view_of st) (view_of next) stage part past ended bad line sends (row_turns s i st place.counted) place.closes e' in
+            let sent = drives_on i.ready i.begun (is_closed i.tx) e (view_of st) (view_of next) stage part past ended bad line sends.driving (row_turns s i st place.counted) place.closes e' in
             let turn = turn_of part past ended bad line stage (cmd_of (view_of next)) in
             let quarter = run_quarter a sent.y turn.state.part e turn.state.stage flag (omega (arith, sent.time)) sent.low sent.late in
             subst (λ (q : Option Quarter). DriveTurn SendsRun n begin t ws i.ready next turn.state.stage turn.state.part q) (sym (drives_state part past ended bad line stage (cmd_of (view_of next)) ∙ quarter.is))
-            (run_goes_on {e = e} {q = quarter.quarter} a rest at own flag from within time sent quarter.spells)
+            (run_goes_on {e = e} {q = quarter.quarter} a rest at own flag from within time
+            (record { id = turned_id (id_of st) next turned (view_own next ∙ e') ∙ sends.id; driving = sent }) quarter.spells)
 
         stops : own_of (view_of next) ≡ false → Drives next (cmd_of (view_of next))
         stops e' =
-            let stop = drives_out i.ready i.begun (is_closed i.tx) e (view_of st) (view_of next) stage part past ended bad line sends (row_turns s i st place.counted) place.closes e' place.commits place.pauses in
-            let drain = drains s st i (sends_own e st stage part sends) (view_own next ∙ e') in
+            let stop = drives_out i.ready i.begun (is_closed i.tx) e (view_of st) (view_of next) stage part past ended bad line sends.driving (row_turns s i st place.counted) place.closes e' place.commits place.pauses in
+            let drain : next ≡ Drain a.place = drained (id_of st) next turned (view_own next ∙ e') ∙ ap Drain sends.id in
             let turn = turn_of part past ended bad line stage (cmd_of (view_of next)) in
             subst (λ (q : Option Quarter). DriveTurn SendsRun n begin t ws i.ready next turn.state.stage turn.state.part q) (sym stop.none)
             (subst (λ (g : Stage). DriveTurn SendsRun n begin t ws i.ready next g turn.state.part None) (sym stop.quiet)

@@ -3,7 +3,6 @@ use Rattle.std.proofs.Common.{◌≡◌, ℕ, zero, suc, ◌+◌, ◌-◌, ◌*�
 use Rattle.std.specs.List.{All}
 use Rattle.std.specs.Prelude.{is_some}
 use Rattle.std.proofs.lemmas.Bool.{cases_lt, false≢true}
-use Rattle.std.proofs.lemmas.Bool.Decides.{nat_tests}
 use Rattle.t1s_frame.specs.Frame.{IsFrame}
 use Rattle.t1s_symbols.specs.declared.Quarter.{Quarter}
 use Rattle.t1s_ring.specs.declared.queued.Queued.{Queued}
@@ -30,7 +29,7 @@ use Rattle.t1s_turns.specs.CarrierOverWaves.{CarrierOverWaves, silent, missed, r
 use Rattle.t1s_turns.specs.ControlOverWaves.{WaitingControl, listens, fades, syncs, counts, ControlOverWaves, recovers, waits_for_beacon, hears_first_wave, owns_beacon, owns_run, waits}
 use Rattle.t1s_turns.specs.DriveOverWaves.{DriveOverWaves, quiet, goes_on, ends, starts_first_beacon, starts_beacon, starts_run}
 use Rattle.t1s_turns.specs.NextOpportunity.{LastsAtMost}
-use Rattle.t1s_turns.specs.NodeOverWaves.{cycle_of, HasOpportunity, started, HearsWaves, NodeOverWaves}
+use Rattle.t1s_turns.specs.NodeOverWaves.{cycle_of, HasLowIds, HasOpportunity, started, HearsWaves, NodeOverWaves}
 use Rattle.t1s_turns.specs.ReceiverOverWaves.{HeardOverWaves}
 use Rattle.t1s_turns.proofs.ControlNext.{same_wave, own_behind}
 use Rattle.t1s_turns.proofs.DrawBounds.{picked_draws}
@@ -147,7 +146,7 @@ run_owned n is begin t ws behind first w xs came own flag from within st _ _ (wa
     let same : w ≡ a = (head_is w a xs rest (sym (own_seen n is t ws w xs behind came own) ∙ newest)).0 in
     absurd (waits_not n t a st (subst (λ (y : Wave). y.own ≡ true) same own) (subst (λ (y : Wave). t ≤ y.till) same within) state)
 
-module _ (set : NodeSet) (is_set : IsNodeSet set) (low_id : set.control.id < set.control.count) (room : ℕ) (draws : PickedDraws) (given : ℕ → NodeTick)
+module _ (set : NodeSet) (is_set : IsNodeSet set) (low_ids : HasLowIds set) (room : ℕ) (draws : PickedDraws) (given : ℕ → NodeTick)
     (frames : (u : ℕ) → All (λ (q : Queued). IsFrame q.frame) (given u).offers) (begin end : ℕ) (ws : List Wave)
     (waves : AreWaves (cycle_of set) begin (begin + end) ws) (hears : HearsWaves set room draws given begin (begin + end) ws) where
   abbrev n : CycleSettings
@@ -163,11 +162,11 @@ module _ (set : NodeSet) (is_set : IsNodeSet set) (low_id : set.control.id < set
   told = core_ticks first given
 
   abbrev is : IsCycleSettings n
-  is = is_cycle set is_set low_id begin ws
+  is = is_cycle set is_set low_ids begin ws
 
   turn : (u : ℕ) → u ≤ end → NodeOverWaves set room draws given begin u ws
   turn u within =
-      turn_at picked_draws set is_set low_id room draws given frames begin (begin + u) ws (told_by n begin (begin + u) (begin + end) ws (omega (arith, within)) waves)
+      turn_at picked_draws set is_set low_ids room draws given frames begin (begin + u) ws (told_by n begin (begin + u) (begin + end) ws (omega (arith, within)) waves)
       (λ v before. hears v (omega (arith, before, within))) u refl
 
   pub calm : IsUndisturbed picked_answer picked_after start told end
@@ -244,26 +243,23 @@ module _ (set : NodeSet) (is_set : IsNodeSet set) (low_id : set.control.id < set
 
     -- ---- the turn
 
-    owned : n.owns set.control.id ≡ true
-    owned = grind (arith, nat_tests)
-
     -- the node holds its opportunity where that begins with a frame in Pending
-    takes_turn : (y : ℕ) (a : Wave) (rest : List Wave) → suc y ≤ end → BeginsBehind n (begin + y) ws a rest set.control.id → ready (node_at first given y).core.path ≡ true
+    takes_turn : (own_id : ℕ) → n.owns own_id ≡ true → (y : ℕ) (a : Wave) (rest : List Wave) → suc y ≤ end → BeginsBehind n (begin + y) ws a rest own_id → ready (node_at first given y).core.path ≡ true
         → own_at picked_answer picked_after start told y ≡ true
-    takes_turn y a rest within begins waiting =
-        let driven = drives_then n is begin (begin + y) ws waves.behind a rest set.control.id begins owned (ready (node_at first given y).core.path) waiting (node_drive_at first given y).quarter (turn y (omega (arith, within))).drives in
+    takes_turn own_id owned y a rest within begins waiting =
+        let driven = drives_then n is begin (begin + y) ws waves.behind a rest own_id begins owned (ready (node_at first given y).core.path) waiting (node_drive_at first given y).quarter (turn y (omega (arith, within))).drives in
         let heard : HeardOverWaves (begin + y) (arrived (begin + y + 1) ws) (given y).heard true =
         subst (λ (b : Bool). HeardOverWaves (begin + y) (arrived (begin + y + 1) ws) (given y).heard b) driven (hears y (omega (arith, within))) in
-        let b = own_behind n is (begin + y) ws waves.behind (given y).heard a rest set.control.id heard begins in
+        let b = own_behind n is (begin + y) ws waves.behind (given y).heard a rest own_id heard begins in
         let wave = (subst (λ (xs : List Wave). EachWave (IsWave n (begin + end)) xs) b.new.at (each_arrived (IsWave n (begin + end)) (begin + y + 1) ws waves.each)).0 in
         let next : begin + y + 1 ≡ begin + suc y = omega arith in
         own_is y ∙ (ap (λ (c : Core PickedDraws). is_own c.control.state) (kept_is y)
         ∙ run_owned n is begin (begin + suc y) ws waves.behind waves.first b.new.w (arrived (begin + y) ws) (subst (λ m. arrived m ws ≡ b.new.w ∷ arrived (begin + y) ws) next b.new.at) b.new.own
         (kind b.new.w.beacon refl wave b.place) (omega (arith, b.new.from)) (omega (arith, b.new.lasts)) _ _ _ (turn (suc y) within).control)
       where
-        kind : (f : Bool) {w : Wave} → w.beacon ≡ f → IsWave n (begin + end) w → set.control.id ≡ w.place → w.beacon ≡ false
+        kind : (f : Bool) {w : Wave} → w.beacon ≡ f → IsWave n (begin + end) w → own_id ≡ w.place → w.beacon ≡ false
         kind false e wave place = e
-        kind true e wave place = absurd (omega (arith, place, wave.beacon e, low_id))
+        kind true e wave place = absurd (omega (arith, place, wave.beacon e, low_ids own_id owned))
 
     abbrev Run : ℕ → Type 0
     Run t = RunAt picked_answer picked_after calm.draws start told end calm t
@@ -288,11 +284,11 @@ module _ (set : NodeSet) (is_set : IsNodeSet set) (low_id : set.control.id < set
         ]
 
     -- a frame in Pending has the node's next turn
-    pub commits_in_time : Run zero → (f : Queued) (v : ℕ) → v + 2 + (n.count + 1) * unit ≤ end → active_at picked_answer picked_after start told v ≡ true → PendsAt picked_answer picked_after start told f v
+    pub commits_in_time : (own_id : ℕ) → n.owns own_id ≡ true → Run zero → (f : Queued) (v : ℕ) → v + 2 + (n.count + 1) * unit ≤ end → active_at picked_answer picked_after start told v ≡ true → PendsAt picked_answer picked_after start told f v
         → (c : ℕ) × (v < c) × (c ≤ v + 1 + (n.count + 1) * unit) × CommitsFor picked_answer picked_after start told f c
-    commits_in_time run f v within active pending =
+    commits_in_time own_id owned run f v within active pending =
         let sees = seen_then v (omega (arith, within)) active in
-        let offer = next_turn n is (begin + end) longest unit set.control.id (begin + suc v) big owned (omega (arith, within)) begin ws sees.a sees.rest waves most sees.newest in
+        let offer = next_turn n is (begin + end) longest unit own_id (begin + suc v) big owned (omega (arith, within)) begin ws sees.a sees.rest waves most sees.newest in
         let k : ℕ = offer.t - (begin + suc v) in
         let y : ℕ = v + k in
         let now : offer.t ≡ begin + suc y = omega (arith, offer.from) in
@@ -302,6 +298,6 @@ module _ (set : NodeSet) (is_set : IsNodeSet set) (low_id : set.control.id < set
           | inr still ↦
               let step = pends_until_own picked_answer picked_after calm.draws start told end calm run f y (omega (arith, high, within)) still in
               let waiting : ready (node_at first given (suc y)).core.path ≡ true = ap (λ (c : Core PickedDraws). ready c.path) (sym (kept_is y)) ∙ ap ready still.0 in
-              let begins = subst (λ m. BeginsBehind n m ws offer.newest offer.older set.control.id) now offer.begins in
-              (suc y, omega arith, high, step.1 (takes_turn (suc y) offer.newest offer.older (omega (arith, high, within)) begins waiting))
+              let begins = subst (λ m. BeginsBehind n m ws offer.newest offer.older own_id) now offer.begins in
+              (suc y, omega arith, high, step.1 (takes_turn own_id owned (suc y) offer.newest offer.older (omega (arith, high, within)) begins waiting))
         ]

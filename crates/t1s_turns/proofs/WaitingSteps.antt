@@ -1,5 +1,5 @@
 -- One tick of a node that takes part in the cycle and does not drive: control, by the carrier and the class along waves.
-use Rattle.std.proofs.Common.{◌≡◌, ℕ, ◌+◌, ◌<◌, ◌≤◌, max, ◌⊎◌, inl, inr, Bool, true, false, nat_le, ◌==◌, List, ◌∷◌, refl, sym, ◌∙◌, ap, arith, rules}
+use Rattle.std.proofs.Common.{◌≡◌, ℕ, ◌+◌, ◌<◌, ◌≤◌, max, ◌⊎◌, inl, inr, Bool, true, false, nat_le, List, ◌∷◌, refl, sym, ◌∙◌, ap, arith, rules}
 use Rattle.std.proofs.lemmas.Bool.{cases_lt, false≢true}
 use Rattle.std.proofs.lemmas.Bool.Decides.{nat_tests}
 use Rattle.t1s_symbols.specs.declared.Class.{Class}
@@ -9,7 +9,7 @@ use Rattle.t1s_node.specs.declared.carrier.Carrier.{Carrier}
 use Rattle.plca_control.specs.declared.ControlSet.{ControlSet}
 use Rattle.plca_control.specs.declared.ControlIn.{ControlIn}
 use Rattle.plca_control.specs.declared.State.{State}
-use Rattle.plca_control.specs.ControlTable.{control_row, is_beacon}
+use Rattle.plca_control.specs.ControlTable.{mine, control_row, is_beacon}
 use Rattle.t1s_world.specs.Waves.{CycleSettings, IsCycleSettings, Wave, AreBehind, arrived, seen, lag, reads_beacon, next_heard}
 use Rattle.t1s_turns.specs.CarrierOverWaves.{CarrierOverWaves}
 use Rattle.t1s_turns.specs.ReceiverOverWaves.{ReceiverOverWaves, class_by, silent, unheard, reads_first, known, past, late}
@@ -89,7 +89,7 @@ module _ (n : CycleSettings) (is : IsCycleSettings n) (begin t : ℕ) (ws : List
       go (is_seen e x) = read_of (arrived t ws) class burst e other from (omega (arith, at, is.fall_low)) h
       go (still_rises v e theirs come soon b) = absurd (omega (arith, at, come, b.gap))
 
-  module _ (s : ControlSet) (same_owns : (x : ℕ) → n.owns x ≡ (x == s.id)) (same_count : s.count ≡ n.count) (same_to : s.to ≡ n.to)
+  module _ (s : ControlSet) (same_owns : (x : ℕ) → n.owns x ≡ mine s x) (same_count : s.count ≡ n.count) (same_to : s.to ≡ n.to)
       (i : ControlIn) (c : Carrier) (burst : Burst) (shown : i.crs ≡ c.on)
       (carrier : CarrierOverWaves n begin t (arrived t ws) c) (receiver : ReceiverOverWaves n begin t (arrived t ws) i.class burst)
       (only : n.owns 0 ≡ true → a.own ≡ false → reads_beacon a ≡ false) (next_is : a.till < t → a.next ≡ next_heard a) where
@@ -104,9 +104,9 @@ module _ (n : CycleSettings) (is : IsCycleSettings n) (begin t : ℕ) (ws : List
     turn_next _ (listens other within) =
         let crs = crs_is c (inl other) carrier in
         listening s n is same_owns same_count same_to t (arrived t ws) a i read only next_is c.on crs shown other within knows.low
-    turn_next _ (fades own flag mine over within) =
+    turn_next _ (fades own flag own_id over within) =
         let crs = crs_is c (inr over) carrier in
-        draining s n is same_owns same_count same_to t (arrived t ws) a i read only next_is c.on crs shown own flag mine over within
+        draining s n is same_owns same_count same_to t (arrived t ws) a i read only next_is c.on crs shown own flag own_id over within
     turn_next _ (syncs own whole over within) =
         let crs = crs_is c (inr over) carrier in
         syncing s n is same_owns same_count same_to t (arrived t ws) a i read only next_is c.on crs shown own whole over within

@@ -7,10 +7,10 @@ use Rattle.t1s_world.specs.Waves.{CycleSettings, Wave, opportunity_start, reads_
 
 -- the states of an opportunity of ID x: its run has ended and carrier has not fallen yet; and its first tick
 abbrev pub drain_of : ℕ → State
-drain_of x = Drain
+drain_of x = Drain x
 
 abbrev pub commit_of : ℕ → ℕ → State
-commit_of x burst = Commit 288 burst
+commit_of x burst = Commit x 288 burst
 
 -- of a node that takes part in the cycle and does not drive, by the newest wave that it has seen: it listens to another's,
 -- or its own fades, or its carrier is off and it counts
@@ -33,9 +33,9 @@ NoOwnWave begin t ws = (w : Wave) (rest : List Wave) → arrived t ws ≡ w ∷ 
 
 -- The control of a node that starts at tick `begin`, with the stage of its transmitter and the quarter that this drove last.
 -- Before the node takes part in the cycle it recovers, waits for a beacon, or hears its first wave; then it drives a beacon
--- or a run of its own, or waits in one of the cases above. `Sends e st stage part` is what is said of control and transmitter
--- e ticks after the node's own opportunity began.
-pub data ControlOverWaves (Sends : ℕ → State → Stage → ℕ → Type 0) (n : CycleSettings) (begin t : ℕ) (ws : List Wave) : State → Stage → ℕ
+-- or a run of its own, or waits in one of the cases above. `Sends x e st stage part` is what is said of control and transmitter
+-- e ticks after the node's own opportunity of ID x began.
+pub data ControlOverWaves (Sends : ℕ → ℕ → State → Stage → ℕ → Type 0) (n : CycleSettings) (begin t : ℕ) (ws : List Wave) : State → Stage → ℕ
     → Type 0 where
   recovers : {q part : ℕ} → n.owns 0 ≡ true → begin + q ≡ t → q ≤ 258 * n.to → ControlOverWaves Sends n begin t ws (Recover q) Quiet part
   waits_for_beacon : {part : ℕ} → n.owns 0 ≡ false → NoOwnWave begin t ws → ControlOverWaves Sends n begin t ws Resync Quiet part
@@ -48,6 +48,6 @@ pub data ControlOverWaves (Sends : ℕ → State → Stage → ℕ → Type 0) (
       → ControlOverWaves Sends n begin t ws (Beacon left) Beaconing part
   owns_run : {a : Wave} {rest : List Wave} {e part : ℕ} {st : State} {stage : Stage} → arrived t ws ≡ a ∷ rest → a.own ≡ true → a.beacon ≡ false
       → begin ≤ a.from → t ≤ a.till
-      → a.from + e ≡ t → Sends e st stage part → ControlOverWaves Sends n begin t ws st stage part
+      → a.from + e ≡ t → Sends a.place e st stage part → ControlOverWaves Sends n begin t ws st stage part
   waits : {a : Wave} {rest : List Wave} {part : ℕ} {st : State} → seen n t ws ≡ a ∷ rest → WasThere n begin t a → WaitingControl n t a st
       → ControlOverWaves Sends n begin t ws st Quiet part

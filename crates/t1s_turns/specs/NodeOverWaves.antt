@@ -1,9 +1,9 @@
 -- One node over the waves that pass it: what it hears of them, and what it keeps as a tick finds it.
-use Rattle.std.specs.Prelude.{◌≡◌, ℕ, ◌+◌, ◌<◌, true, false, List, ◌==◌, is_some}
+use Rattle.std.specs.Prelude.{◌≡◌, ℕ, ◌+◌, ◌<◌, true, false, List, is_some}
 use Rattle.t1s_ring.specs.Queue.{empty_queue}
 use Rattle.t1s_pcs_tx.specs.State.{Stage}
 use Rattle.plca_control.specs.declared.State.{State}
-use Rattle.plca_control.specs.ControlTable.{is_own}
+use Rattle.plca_control.specs.ControlTable.{mine, is_own}
 use Rattle.plca_data.specs.DataPathTable.{ready}
 use Rattle.t1s_mac.specs.PickedDraws.{picked_answer, picked_after}
 use Rattle.t1s_mac.specs.declared.picked_draws.PickedDraws.{PickedDraws}
@@ -17,13 +17,17 @@ use Rattle.t1s_turns.specs.ReceiverOverWaves.{ReceiverOverWaves, HeardOverWaves}
 use Rattle.t1s_turns.specs.ControlOverWaves.{ControlOverWaves}
 use Rattle.t1s_turns.specs.DriveOverWaves.{DriveOverWaves}
 
--- what a node is set to for the cycle: it has one ID
+-- what a node is set to for the cycle
 abbrev pub cycle_of : NodeSet → CycleSettings
-cycle_of s = record { owns = λ x. x == s.control.id; count = s.control.count; to = s.control.to; rise = s.rise; fall = s.fall }
+cycle_of s = record { owns = λ x. mine s.control x; count = s.control.count; to = s.control.to; rise = s.rise; fall = s.fall }
 
--- in its own opportunity control is in Commit, Transmit or Burst
-abbrev pub HasOpportunity : ℕ → State → Stage → ℕ → Type 0
-HasOpportunity e state stage part = is_own state ≡ true
+-- each ID of the node is below the count
+abbrev pub HasLowIds : NodeSet → Type 0
+HasLowIds s = (x : ℕ) → mine s.control x ≡ true → x < s.control.count
+
+-- in an opportunity of its own control is in Commit, Transmit or Burst
+abbrev pub HasOpportunity : ℕ → ℕ → State → Stage → ℕ → Type 0
+HasOpportunity x e state stage part = is_own state ≡ true
 
 module _ (set : NodeSet) (room : ℕ) (draws : PickedDraws) (given : ℕ → NodeTick) (begin : ℕ) where
   -- the node that starts in tick `begin` of the world, which is its own tick 0

@@ -66,7 +66,7 @@ impl Cable {
     ghost use Rattle.t1s_cable.specs.Stands.{Stands, no_puts};
     ghost use Rattle.t1s_cable.specs.Taps.{most_stub, taps_of};
 
-    /// A cable with 1 to 16 nodes, in its first tick, in which nothing is put yet. Node i hangs at place i of the
+    /// A cable with 1 to 32 nodes, in its first tick, in which nothing is put yet. Node i hangs at place i of the
     /// trunk by stub i, both in whole bit times; a stub is at most 31 long. The two lists have the same length. It
     /// takes all memory of the run, room for what each node puts in as many ticks as the cable spans, and the
     /// current one.

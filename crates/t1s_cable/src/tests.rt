@@ -279,6 +279,17 @@ fn the_farthest_nodes_hear_each_other_after_255_ticks(rt: HostRuntime) -> Result
 }
 
 #[test]
+fn the_last_of_32_nodes_hears_the_first(rt: HostRuntime) -> Result<(), Fail> {
+    let mut cable = Cable::new(rt.alloc(), &[0; 32], &[0; 32])?;
+    cable.put(0, Some(BEACON));
+    assert_eq!(rt; cable.heard(0), Heard::Nothing);
+    assert_eq!(rt; cable.heard(31), Heard::One(BEACON));
+    cable.put(1, Some(COMMIT));
+    assert_eq!(rt; cable.heard(31), Heard::Many);
+    Ok(())
+}
+
+#[test]
 fn silence_is_passed_up_to_what_is_on_its_way(rt: HostRuntime) -> Result<(), Fail> {
     let mut cable = Cable::new(rt.alloc(), &[0, 2, 5], &[0, 0, 0])?;
     assert_eq!(rt; cable.calm_for(u64::MAX), u64::MAX);

@@ -1,6 +1,6 @@
 -- A draft holds what the lines read so far give, and one more line is refused alike or is held too.
-use Rattle.std.proofs.Common.{◌≡◌, ◌≢◌, ◌⊎◌, inl, inr, ℕ, zero, suc, ◌+◌, ◌<◌, ◌≤◌, Bool, true, false, cond, eqb, leb, ltb, List, [], ◌∷◌, ◌++◌, length, get_or, set, replicate, Option, Some, None, Result, Ok, Err, refl, sym, ◌∙◌, ap, subst, arith}
-use Rattle.std.specs.Prelude.{◌||◌, not, is_some, filter_map, option_map}
+use Rattle.std.proofs.Common.{◌≡◌, ◌≢◌, ◌⊎◌, inl, inr, ℕ, zero, suc, ◌+◌, ◌<◌, ◌≤◌, Bool, true, false, cond, eqb, leb, ltb, List, [], ◌∷◌, ◌++◌, length, length-append, get_or, set, replicate, Option, Some, None, Result, Ok, Err, refl, sym, ◌∙◌, ap, subst, arith}
+use Rattle.std.specs.Prelude.{◌==◌, ◌||◌, not, is_some, filter_map, option_map}
 use Rattle.std.specs.Option.{option_to_list, option_and_then}
 use Rattle.std.specs.List.{list_any}
 use Rattle.std.proofs.Math.ListN.{length-set}
@@ -9,13 +9,14 @@ use Rattle.std.proofs.lemmas.Bool.Decides.{eqb_tells, nat_tests}
 use Rattle.std.proofs.lemmas.List.{get_or-set_same, get_or-set_other}
 use Rattle.std.proofs.lemmas.List.Folds.{list_any-append}
 use Rattle.t1s_base.specs.Limits.{most_nodes, last_node}
+use Rattle.t1s_base.specs.NodeIds.{has_id}
 use Rattle.t1s_script.specs.ParsedLine.{ParsedLine}
-use Rattle.t1s_script.specs.Limits.{most_acts, most_draws}
-use Rattle.t1s_script.specs.Values.{number_for, seed_from, node_for, stub_for, start_for, timer_for, draw_for, tick_from, latest_tick, end_from, is_node, some_gives}
+use Rattle.t1s_script.specs.Limits.{most_acts, most_draws, most_further_ids, most_ids}
+use Rattle.t1s_script.specs.Values.{number_for, seed_from, node_for, also_for, gives_id, stub_for, start_for, timer_for, draw_for, tick_from, latest_tick, end_from, is_node, some_gives}
 use Rattle.t1s_script.specs.Script.{offers_in}
 use Rattle.t1s_script.specs.Rules.{reason_of}
 use Rattle.t1s_script.specs.Reading.{act_at}
-use Rattle.t1s_script.specs.Draft.{given, with_given, draft_start, slot_at, with_slot, set_after, seed_after, new_slot, node_after, once_in_slot, stub_after, late_after, timer_after, draw_in_slot, with_act, timed_after, offer_after, end_after, line_after, unskipped_after, draft_after}
+use Rattle.t1s_script.specs.Draft.{given, with_given, draft_start, slot_at, with_slot, set_after, seed_after, new_slot, node_after, also_in_slot, once_in_slot, stub_after, late_after, timer_after, draw_in_slot, with_act, timed_after, offer_after, end_after, line_after, unskipped_after, draft_after}
 use Rattle.t1s_script.specs.declared.draft.Draft.{Draft}
 use Rattle.t1s_script.specs.declared.draft.Settings.{Settings}
 use Rattle.t1s_script.specs.declared.draft.Slot.{Slot}
@@ -26,15 +27,26 @@ use Rattle.t1s_script.specs.declared.script.Deed.TheVariants.{Offer as OfferDeed
 use Rattle.t1s_script.specs.declared.words.Setting.{Setting}
 use Rattle.t1s_script.specs.declared.words.Setting.TheVariants.{Count, To, Rise, Fall, Burst, Room}
 use Rattle.t1s_script.specs.declared.words.ScriptLine.{ScriptLine}
-use Rattle.t1s_script.specs.declared.words.ScriptLine.TheVariants.{Skipped, Set, Seed, Node, Stub, Late, ToNode, Draw, Offer, Noise, End}
+use Rattle.t1s_script.specs.declared.words.ScriptLine.TheVariants.{Skipped, Set, Seed, Node, Also, Stub, Late, ToNode, Draw, Offer, Noise, End}
 use Rattle.t1s_script.proofs.Ranges.{InRange}
+use Rattle.t1s_script.proofs.FurtherIds.{first_id, further_ids, first_more, further_more, full_is, has_whole, ids_given}
 use Rattle.t1s_script.proofs.LineValues.{gives, kept, gained, same_values, one_more}
 use Rattle.t1s_script.proofs.LineActs.{HoldsActs, IsUntimed, HasAct, same_acts, more_acts}
 
 -- ---- what a draft holds
 
+-- the IDs of the `also` lines
+abbrev pub further_in : Option Slot → List ℕ
+further_in (Some slot) = further_ids slot.ids
+further_in None = []
+
+-- a slot that is taken has an ID
+abbrev pub HasAnId : Option Slot → Type 0
+HasAnId (Some slot) = 1 ≤ length slot.ids
+HasAnId None = Unit {0}
+
 abbrev pub id_and_place : Slot → ℕ × ℕ
-id_and_place slot = (slot.id, slot.place)
+id_and_place slot = (first_id slot.ids, slot.place)
 
 -- what a slot keeps of a line that may stand once for its node
 abbrev pub once_in : (Slot → Option ℕ) → Option Slot → Option ℕ
@@ -47,6 +59,8 @@ draws_in None = []
 -- what is kept of the node of that number is all that these lines give of it
 pub record HoldsSlot (lines : List ParsedLine) (number : ℕ) (slot : Option Slot) : Type 0 where
   pub place : option_to_list (option_map id_and_place slot) ≡ filter_map (node_for number) lines
+  pub some_id : HasAnId slot
+  pub also : further_in slot ≡ filter_map (also_for number) lines
   pub stub : option_to_list (once_in (λ s. s.stub) slot) ≡ filter_map (stub_for number) lines
   pub timer : option_to_list (once_in (λ s. s.to) slot) ≡ filter_map (timer_for number) lines
   pub start : option_to_list (once_in (λ s. s.start) slot) ≡ filter_map (start_for number) lines
@@ -71,7 +85,7 @@ pub start_holds : Holds [] draft_start
 start_holds = record {
   settings = none_given;
   seed = refl;
-  slots = λ number. subst (HoldsSlot [] number) (sym (none_free most_nodes number)) (record { place = refl; stub = refl; timer = refl; start = refl; draws = refl });
+  slots = λ number. subst (HoldsSlot [] number) (sym (none_free most_nodes number)) (record { place = refl; some_id = tt; also = refl; stub = refl; timer = refl; start = refl; draws = refl });
   acts = record { acts = refl; latest = refl; counted = refl; numbered = refl };
   size = refl;
   some_node = refl;
@@ -126,6 +140,7 @@ setting_kept lines s v w n free e = kept (number_for w) lines (Ok (Set v n)) (gi
 -- a line that gives nothing of the node of that number
 record SparesSlot (number : ℕ) (line : ParsedLine) : Type 0 where
   pub place : node_for number line ≡ None
+  pub also : also_for number line ≡ None
   pub stub : stub_for number line ≡ None
   pub timer : timer_for number line ≡ None
   pub start : start_for number line ≡ None
@@ -156,6 +171,8 @@ module _ (lines : List ParsedLine) (d : Draft) (h : Holds lines d) where
   same_slot : (line : ParsedLine) (k : ℕ) → SparesSlot k line → HoldsSlot (lines ++ line ∷ []) k (slot_at d k)
   same_slot line k spared = record {
     place = kept (node_for k) lines line (option_map id_and_place (slot_at d k)) (h.slots k).place spared.place;
+    some_id = (h.slots k).some_id;
+    also = (h.slots k).also ∙ same_values (also_for k) lines line spared.also;
     stub = kept (stub_for k) lines line (once_in (λ s. s.stub) (slot_at d k)) (h.slots k).stub spared.stub;
     timer = kept (timer_for k) lines line (once_in (λ s. s.to) (slot_at d k)) (h.slots k).timer spared.timer;
     start = kept (start_for k) lines line (once_in (λ s. s.start) (slot_at d k)) (h.slots k).start spared.start;
@@ -172,7 +189,7 @@ module _ (lines : List ParsedLine) (d : Draft) (h : Holds lines d) where
   skipped_step = record {
     settings = same_settings (Ok Skipped) (λ w. refl);
     seed = same_seed (Ok Skipped) refl;
-    slots = λ k. same_slot (Ok Skipped) k (record { place = refl; stub = refl; timer = refl; start = refl; draws = refl });
+    slots = λ k. same_slot (Ok Skipped) k (record { place = refl; also = refl; stub = refl; timer = refl; start = refl; draws = refl });
     acts = untimed (Ok Skipped) (record { act = λ k. refl; offer = refl; tick = refl });
     size = h.size;
     some_node = same_nodes (Ok Skipped) refl;
@@ -194,7 +211,7 @@ module _ (lines : List ParsedLine) (d : Draft) (h : Holds lines d) where
           record {
             settings = λ v. setting_kept lines d.settings w v n here (h.settings v);
             seed = same_seed (Ok (Set w n)) refl;
-            slots = λ k. same_slot (Ok (Set w n)) k (record { place = refl; stub = refl; timer = refl; start = refl; draws = refl });
+            slots = λ k. same_slot (Ok (Set w n)) k (record { place = refl; also = refl; stub = refl; timer = refl; start = refl; draws = refl });
             acts = untimed (Ok (Set w n)) (record { act = λ k. refl; offer = refl; tick = refl });
             size = h.size;
             some_node = same_nodes (Ok (Set w n)) refl;
@@ -212,7 +229,7 @@ module _ (lines : List ParsedLine) (d : Draft) (h : Holds lines d) where
           record {
             settings = same_settings (Ok (Seed n)) (λ w. refl);
             seed = gained seed_from lines (Ok (Seed n)) d.seed n h.seed here refl;
-            slots = λ k. same_slot (Ok (Seed n)) k (record { place = refl; stub = refl; timer = refl; start = refl; draws = refl });
+            slots = λ k. same_slot (Ok (Seed n)) k (record { place = refl; also = refl; stub = refl; timer = refl; start = refl; draws = refl });
             acts = untimed (Ok (Seed n)) (record { act = λ k. refl; offer = refl; tick = refl });
             size = h.size;
             some_node = same_nodes (Ok (Seed n)) refl;
@@ -230,7 +247,7 @@ module _ (lines : List ParsedLine) (d : Draft) (h : Holds lines d) where
           record {
             settings = same_settings (Ok (End last)) (λ w. refl);
             seed = same_seed (Ok (End last)) refl;
-            slots = λ k. same_slot (Ok (End last)) k (record { place = refl; stub = refl; timer = refl; start = refl; draws = refl });
+            slots = λ k. same_slot (Ok (End last)) k (record { place = refl; also = refl; stub = refl; timer = refl; start = refl; draws = refl });
             acts = untimed (Ok (End last)) (record { act = λ k. refl; offer = refl; tick = refl });
             size = h.size;
             some_node = same_nodes (Ok (End last)) refl;
@@ -294,6 +311,8 @@ module _ (lines : List ParsedLine) (d : Draft) (h : Holds lines d) where
         new_held : slot_at d number ≡ None → HoldsSlot (lines ++ Ok (Node number id place) ∷ []) number (Some (new_slot id place))
         new_held free = (let held : HoldsSlot lines number None = subst (HoldsSlot lines number) free (h.slots number) in record {
           place = gained (node_for number) lines (Ok (Node number id place)) None (id, place) held.place refl (ap (λ b. cond b (Some (id, place)) None) (eqb_same number));
+          some_id = omega arith;
+          also = held.also ∙ same_values (also_for number) lines (Ok (Node number id place)) refl;
           stub = kept (stub_for number) lines (Ok (Node number id place)) None held.stub refl;
           timer = kept (timer_for number) lines (Ok (Node number id place)) None held.timer refl;
           start = kept (start_for number) lines (Ok (Node number id place)) None held.start refl;
@@ -305,7 +324,7 @@ module _ (lines : List ParsedLine) (d : Draft) (h : Holds lines d) where
         go None here = (
           rw (no_end, unknown number here) refl,
           put_holds (Ok (Node number id place)) number (new_slot id place) few (new_held here)
-              (λ k test. record { place = ap (λ b. cond b (Some (id, place)) None) test; stub = refl; timer = refl; start = refl; draws = refl })
+              (λ k test. record { place = ap (λ b. cond b (Some (id, place)) None) test; also = refl; stub = refl; timer = refl; start = refl; draws = refl })
               (record { settings = λ w. refl; seed = refl; untimed = record { act = λ k. refl; offer = refl; tick = refl }; end = refl })
               (node_or (Ok (Node number id place)) ∙ or-true (list_any is_node lines)),
         )
@@ -338,17 +357,76 @@ module _ (lines : List ParsedLine) (d : Draft) (h : Holds lines d) where
           go None here = reason ∙ reason_at no_end (stands None here) (unknown number here)
           go (Some slot) here = in_slot slot here (stood slot) refl
 
+    -- why an `also` line is refused
+    abbrev also_reason : Bool → Bool → Bool → Bool → Option ScriptReason
+    also_reason ended again known full = cond ended (Some AfterEnd) (cond again (Some Twice) (cond (not known) (Some UnknownNode) (cond full (Some TooMany) None)))
+
+    also_reason_at : {a b c d x y z w : Bool} → a ≡ x → b ≡ y → c ≡ z → d ≡ w → also_reason a b c d ≡ also_reason x y z w
+    also_reason_at e f g k = λ i. also_reason (e i) (f i) (g i) (k i)
+
+    module _ (number id : ℕ) where
+      abbrev also_line : ParsedLine
+      also_line = Ok (Also number id)
+
+      refused_for : reason_of lines also_line
+          ≡ also_reason (some_gives end_from lines) (list_any (gives_id number id) lines) (some_gives (node_for number) lines) (leb most_further_ids (length (filter_map (also_for number) lines)))
+      refused_for = refl
+
+      -- the IDs that a slot keeps are those that the lines give
+      held_ids : (o : Option Slot) → HoldsSlot lines number o
+          → list_any (gives_id number id) lines ≡ (list_any (λ (n : ℕ × ℕ). n.0 == id) (option_to_list (option_map id_and_place o)) || has_id (further_in o) id)
+      held_ids o held =
+          ids_given number id lines
+          ∙ ap (λ ns. list_any (λ (n : ℕ × ℕ). n.0 == id) ns || has_id (filter_map (also_for number) lines) id) (sym held.place)
+          ∙ ap (λ ids. list_any (λ (n : ℕ × ℕ). n.0 == id) (option_to_list (option_map id_and_place o)) || has_id ids id) (sym held.also)
+
+      also_step : number ≤ last_node → IsStep lines also_line (also_in_slot d number id (slot_at d number))
+      also_step few = go (slot_at d number) refl (h.slots number)
+        where
+          added : (slot : Slot) → HoldsSlot lines number (Some slot) → HoldsSlot (lines ++ also_line ∷ []) number (Some (record slot { ids = slot.ids ++ id ∷ [] }))
+          added slot old = record {
+            place = ap (λ first. (first, slot.place) ∷ []) (first_more slot.ids id old.some_id) ∙ kept (node_for number) lines also_line (Some (id_and_place slot)) old.place refl;
+            some_id = omega (arith, length-append slot.ids (id ∷ []));
+            also = further_more slot.ids id old.some_id ∙ ap (λ ids. ids ++ id ∷ []) old.also ∙ one_more (also_for number) lines also_line id (ap (λ b. cond b (Some id) None) (eqb_same number));
+            stub = kept (stub_for number) lines also_line slot.stub old.stub refl;
+            timer = kept (timer_for number) lines also_line slot.to old.timer refl;
+            start = kept (start_for number) lines also_line slot.start old.start refl;
+            draws = old.draws ∙ same_values (draw_for number) lines also_line refl;
+          }
+
+          tried : (slot : Slot) → slot_at d number ≡ Some slot → HoldsSlot lines number (Some slot) → (a b : Bool) → has_id slot.ids id ≡ a → leb most_ids (length slot.ids) ≡ b
+              → IsStep lines also_line (cond a (Err Twice) (cond b (Err TooMany) (Ok (with_slot d number (record slot { ids = slot.ids ++ id ∷ [] })))))
+          tried slot here old a b again full = answer a b (held_ids (Some slot) old ∙ has_whole slot.ids id old.some_id ∙ again) (ap (λ ids. leb most_further_ids (length ids)) (sym old.also) ∙ full_is slot.ids old.some_id ∙ full)
+            where
+              answer : (a b : Bool) → list_any (gives_id number id) lines ≡ a → leb most_further_ids (length (filter_map (also_for number) lines)) ≡ b
+                  → IsStep lines also_line (cond a (Err Twice) (cond b (Err TooMany) (Ok (with_slot d number (record slot { ids = slot.ids ++ id ∷ [] })))))
+              answer true b twice many = refused_for ∙ also_reason_at no_end twice refl refl
+              answer false true twice many = refused_for ∙ also_reason_at no_end twice (known number slot here) many
+              answer false false twice many = (
+                refused_for ∙ also_reason_at no_end twice (known number slot here) many,
+                put_holds also_line number (record slot { ids = slot.ids ++ id ∷ [] }) few (added slot old)
+                    (λ k other. record { place = refl; also = ap (λ b. cond b (Some id) None) other; stub = refl; timer = refl; start = refl; draws = refl })
+                    (record { settings = λ w. refl; seed = refl; untimed = record { act = λ k. refl; offer = refl; tick = refl }; end = refl })
+                    (still_some number slot also_line here refl),
+              )
+
+          go : (o : Option Slot) → slot_at d number ≡ o → HoldsSlot lines number (slot_at d number) → IsStep lines also_line (also_in_slot d number id o)
+          go None here held = refused_for ∙ also_reason_at no_end (held_ids None (subst (HoldsSlot lines number) here held)) (unknown number here) refl
+          go (Some slot) here held = tried slot here (subst (HoldsSlot lines number) here held) (has_id slot.ids id) (leb most_ids (length slot.ids)) refl refl
+
     stub_step : (number stub : ℕ) → number ≤ last_node → IsStep lines (Ok (Stub number stub)) (stub_after d number stub)
     stub_step number stub few =
         once_step (Ok (Stub number stub)) number (stub_for number) (λ s. s.stub) (λ s. record s { stub = Some stub }) refl (h.slots number).stub
         (λ slot here free. put_holds (Ok (Stub number stub)) number (record slot { stub = Some stub }) few (held slot here free)
-        (λ k other. record { place = refl; stub = ap (λ b. cond b (Some stub) None) other; timer = refl; start = refl; draws = refl })
+        (λ k other. record { place = refl; also = refl; stub = ap (λ b. cond b (Some stub) None) other; timer = refl; start = refl; draws = refl })
         (record { settings = λ w. refl; seed = refl; untimed = record { act = λ k. refl; offer = refl; tick = refl }; end = refl })
         (still_some number slot (Ok (Stub number stub)) here refl))
       where
         held : (slot : Slot) → slot_at d number ≡ Some slot → slot.stub ≡ None → HoldsSlot (lines ++ (Ok (Stub number stub)) ∷ []) number (Some (record slot { stub = Some stub }))
         held slot here free = (let old : HoldsSlot lines number (Some slot) = subst (HoldsSlot lines number) here (h.slots number) in record {
-          place = kept (node_for number) lines (Ok (Stub number stub)) (Some (slot.id, slot.place)) old.place refl;
+          place = kept (node_for number) lines (Ok (Stub number stub)) (Some (id_and_place slot)) old.place refl;
+          some_id = old.some_id;
+          also = old.also ∙ same_values (also_for number) lines (Ok (Stub number stub)) refl;
           stub = gained (stub_for number) lines (Ok (Stub number stub)) slot.stub stub old.stub free (ap (λ b. cond b (Some stub) None) (eqb_same number));
           timer = kept (timer_for number) lines (Ok (Stub number stub)) slot.to old.timer refl;
           start = kept (start_for number) lines (Ok (Stub number stub)) slot.start old.start refl;
@@ -359,13 +437,15 @@ module _ (lines : List ParsedLine) (d : Draft) (h : Holds lines d) where
     late_step number start few =
         once_step (Ok (Late number start)) number (start_for number) (λ s. s.start) (λ s. record s { start = Some start }) refl (h.slots number).start
         (λ slot here free. put_holds (Ok (Late number start)) number (record slot { start = Some start }) few (held slot here free)
-        (λ k other. record { place = refl; stub = refl; timer = refl; start = ap (λ b. cond b (Some start) None) other; draws = refl })
+        (λ k other. record { place = refl; also = refl; stub = refl; timer = refl; start = ap (λ b. cond b (Some start) None) other; draws = refl })
         (record { settings = λ w. refl; seed = refl; untimed = record { act = λ k. refl; offer = refl; tick = refl }; end = refl })
         (still_some number slot (Ok (Late number start)) here refl))
       where
         held : (slot : Slot) → slot_at d number ≡ Some slot → slot.start ≡ None → HoldsSlot (lines ++ (Ok (Late number start)) ∷ []) number (Some (record slot { start = Some start }))
         held slot here free = (let old : HoldsSlot lines number (Some slot) = subst (HoldsSlot lines number) here (h.slots number) in record {
-          place = kept (node_for number) lines (Ok (Late number start)) (Some (slot.id, slot.place)) old.place refl;
+          place = kept (node_for number) lines (Ok (Late number start)) (Some (id_and_place slot)) old.place refl;
+          some_id = old.some_id;
+          also = old.also ∙ same_values (also_for number) lines (Ok (Late number start)) refl;
           stub = kept (stub_for number) lines (Ok (Late number start)) slot.stub old.stub refl;
           timer = kept (timer_for number) lines (Ok (Late number start)) slot.to old.timer refl;
           start = gained (start_for number) lines (Ok (Late number start)) slot.start start old.start free (ap (λ b. cond b (Some start) None) (eqb_same number));
@@ -376,13 +456,15 @@ module _ (lines : List ParsedLine) (d : Draft) (h : Holds lines d) where
     timer_step number to few =
         once_step (Ok (ToNode number to)) number (timer_for number) (λ s. s.to) (λ s. record s { to = Some to }) refl (h.slots number).timer
         (λ slot here free. put_holds (Ok (ToNode number to)) number (record slot { to = Some to }) few (held slot here free)
-        (λ k other. record { place = refl; stub = refl; timer = ap (λ b. cond b (Some to) None) other; start = refl; draws = refl })
+        (λ k other. record { place = refl; also = refl; stub = refl; timer = ap (λ b. cond b (Some to) None) other; start = refl; draws = refl })
         (record { settings = λ w. refl; seed = refl; untimed = record { act = λ k. refl; offer = refl; tick = refl }; end = refl })
         (still_some number slot (Ok (ToNode number to)) here refl))
       where
         held : (slot : Slot) → slot_at d number ≡ Some slot → slot.to ≡ None → HoldsSlot (lines ++ (Ok (ToNode number to)) ∷ []) number (Some (record slot { to = Some to }))
         held slot here free = (let old : HoldsSlot lines number (Some slot) = subst (HoldsSlot lines number) here (h.slots number) in record {
-          place = kept (node_for number) lines (Ok (ToNode number to)) (Some (slot.id, slot.place)) old.place refl;
+          place = kept (node_for number) lines (Ok (ToNode number to)) (Some (id_and_place slot)) old.place refl;
+          some_id = old.some_id;
+          also = old.also ∙ same_values (also_for number) lines (Ok (ToNode number to)) refl;
           stub = kept (stub_for number) lines (Ok (ToNode number to)) slot.stub old.stub refl;
           timer = gained (timer_for number) lines (Ok (ToNode number to)) slot.to to old.timer free (ap (λ b. cond b (Some to) None) (eqb_same number));
           start = kept (start_for number) lines (Ok (ToNode number to)) slot.start old.start refl;
@@ -394,7 +476,9 @@ module _ (lines : List ParsedLine) (d : Draft) (h : Holds lines d) where
       where
         draw_held : (slot : Slot) → slot_at d number ≡ Some slot → HoldsSlot (lines ++ Ok (Draw number draw) ∷ []) number (Some (record slot { draws = slot.draws ++ draw ∷ [] }))
         draw_held slot here = (let held : HoldsSlot lines number (Some slot) = subst (HoldsSlot lines number) here (h.slots number) in record {
-          place = kept (node_for number) lines (Ok (Draw number draw)) (Some (slot.id, slot.place)) held.place refl;
+          place = kept (node_for number) lines (Ok (Draw number draw)) (Some (id_and_place slot)) held.place refl;
+          some_id = held.some_id;
+          also = held.also ∙ same_values (also_for number) lines (Ok (Draw number draw)) refl;
           stub = kept (stub_for number) lines (Ok (Draw number draw)) slot.stub held.stub refl;
           timer = kept (timer_for number) lines (Ok (Draw number draw)) slot.to held.timer refl;
           start = kept (start_for number) lines (Ok (Draw number draw)) slot.start held.start refl;
@@ -407,7 +491,7 @@ module _ (lines : List ParsedLine) (d : Draft) (h : Holds lines d) where
         counted slot here false many = (
           rw (no_end, known number slot here, many) refl,
           put_holds (Ok (Draw number draw)) number (record slot { draws = slot.draws ++ draw ∷ [] }) few (draw_held slot here)
-              (λ k other. record { place = refl; stub = refl; timer = refl; start = refl; draws = ap (λ b. cond b (Some draw) None) other })
+              (λ k other. record { place = refl; also = refl; stub = refl; timer = refl; start = refl; draws = ap (λ b. cond b (Some draw) None) other })
               (record { settings = λ w. refl; seed = refl; untimed = record { act = λ k. refl; offer = refl; tick = refl }; end = refl })
               (still_some number slot (Ok (Draw number draw)) here refl),
         )
@@ -456,19 +540,20 @@ module _ (lines : List ParsedLine) (d : Draft) (h : Holds lines d) where
         go None here = rw (no_end, unknown number here) refl
         go (Some slot) here =
             timed_step (Ok (Offer tick number frame)) tick (OfferDeed (1 + offers_in d.acts) number frame) (record { gives = refl; tick = refl; offers = refl }) (λ w. refl) refl
-            (λ k. record { place = refl; stub = refl; timer = refl; start = refl; draws = refl }) refl refl
+            (λ k. record { place = refl; also = refl; stub = refl; timer = refl; start = refl; draws = refl }) refl refl
             (ap (λ b. cond (some_gives end_from lines) (Some AfterEnd) (cond (not b) (Some UnknownNode) (cond (ltb tick (latest_tick lines)) (Some Order) (cond (leb most_acts (length (filter_map tick_from lines))) (Some TooMany) None)))) (known number slot here))
 
     noise_step : (tick until : ℕ) → IsStep lines (Ok (Noise tick until)) (timed_after d tick (NoiseDeed until))
     noise_step tick until =
         timed_step (Ok (Noise tick until)) tick (NoiseDeed until) (record { gives = refl; tick = refl; offers = refl }) (λ w. refl) refl
-        (λ k. record { place = refl; stub = refl; timer = refl; start = refl; draws = refl }) refl refl refl
+        (λ k. record { place = refl; also = refl; stub = refl; timer = refl; start = refl; draws = refl }) refl refl refl
 
     line_step : (line : ScriptLine) → InRange line → IsStep lines (Ok line) (line_after d line)
     line_step Skipped range = (refl, skipped_step)
     line_step (Set w n) range = set_step w n
     line_step (Seed n) range = seed_step n
     line_step (Node number id place) range = node_step number id place range.0
+    line_step (Also number id) range = also_step number id range.0
     line_step (Stub number stub) range = stub_step number stub range.0
     line_step (Late number start) range = late_step number start range.0
     line_step (ToNode number to) range = timer_step number to range.0

@@ -7,7 +7,7 @@ use Rattle.std.proofs.Math.Seq.{take-append_seam}
 use Rattle.std.proofs.lemmas.List.{append-nil, append_assoc}
 use Rattle.t1s_script.specs.Settings.{default_of}
 use Rattle.t1s_script.specs.ParsedLine.{ParsedLine, parsed_line}
-use Rattle.t1s_script.specs.Values.{number_for, seed_from, stub_for, start_for, timer_for, draw_for, end_from, first_given, setting_of}
+use Rattle.t1s_script.specs.Values.{number_for, seed_from, also_for, stub_for, start_for, timer_for, draw_for, end_from, first_given, setting_of}
 use Rattle.t1s_script.specs.Rules.{reason_of}
 use Rattle.t1s_script.specs.Reading.{refusal_of, first_refusal_or, script_by, script_from, script_after_first, node_of_line, nodes_of_number, nodes_of, draw_list, refused_at}
 use Rattle.t1s_script.specs.Draft.{given, value_in, draft_start, slot_at, draft_after, node_of, nodes_from, script_with, script_at}
@@ -21,20 +21,22 @@ use Rattle.t1s_script.specs.declared.versions.Version.{Version}
 use Rattle.t1s_script.specs.declared.words.Setting.{Setting}
 use Rattle.t1s_script.specs.declared.words.Setting.TheVariants.{Count, To, Rise, Fall, Burst, Room}
 use Rattle.t1s_script.proofs.Ranges.{parsed_line_range}
+use Rattle.t1s_script.proofs.FurtherIds.{first_id, ids_whole}
 use Rattle.t1s_script.proofs.LineValues.{first}
-use Rattle.t1s_script.proofs.DraftSteps.{Holds, HoldsSlot, start_holds, IsStep, unskipped_step}
+use Rattle.t1s_script.proofs.DraftSteps.{id_and_place, Holds, HoldsSlot, start_holds, IsStep, unskipped_step}
 
 -- ---- the script that the lines give
 
 -- the node of a slot is that of its lines
-node_held : (lines : List ParsedLine) (to number : ℕ) (slot : Slot) → to ≡ setting_of To lines → HoldsSlot lines number (Some slot) → node_of to number slot ≡ node_of_line lines number (slot.id, slot.place)
+node_held : (lines : List ParsedLine) (to number : ℕ) (slot : Slot) → to ≡ setting_of To lines → HoldsSlot lines number (Some slot) → node_of to number slot ≡ node_of_line lines number (id_and_place slot)
 node_held lines to number slot timer held =
+    let ids : slot.ids ≡ first_id slot.ids ∷ filter_map (also_for number) lines = ids_whole slot.ids held.some_id ∙ ap (λ further. first_id slot.ids ∷ further) held.also in
     let own : unwrap_or slot.to to ≡ first_given (timer_for number) lines (setting_of To lines) =
     ap (unwrap_or slot.to) timer ∙ first (timer_for number) lines slot.to (setting_of To lines) held.timer in
     let stub : unwrap_or slot.stub 0 ≡ first_given (stub_for number) lines 0 = first (stub_for number) lines slot.stub 0 held.stub in
     let start : unwrap_or slot.start 0 ≡ first_given (start_for number) lines 0 = first (start_for number) lines slot.start 0 held.start in
     let draws : draw_list slot.draws ≡ draw_list (filter_map (draw_for number) lines) = ap draw_list held.draws in
-    λ i. record { no = number; id = slot.id; place = slot.place; stub = stub i; to = own i; start = start i; draws = draws i }
+    λ i. record { no = number; ids = ids i; place = slot.place; stub = stub i; to = own i; start = start i; draws = draws i }
 
 -- the nodes of one slot, and of all slots from a number on
 slot_held : (lines : List ParsedLine) (to number : ℕ) (slot : Option Slot) → to ≡ setting_of To lines → HoldsSlot lines number slot → option_to_list (option_map (node_of to number) slot) ≡ nodes_of_number lines number

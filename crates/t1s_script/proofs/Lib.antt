@@ -1,5 +1,6 @@
 pub mod Cuts
 pub mod Ranges
+pub mod FurtherIds
 pub mod Nodes
 pub mod LineValues
 pub mod LineActs

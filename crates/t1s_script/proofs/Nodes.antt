@@ -1,10 +1,11 @@
 -- The nodes of the slots of a draft.
-use Rattle.std.proofs.Common.{◌≡◌, ℕ, zero, suc, ◌+◌, ◌<◌, ◌≤◌, true, List, [], ◌∷◌, length, get_or, Option, Some, None, refl, arith, All, unwrap_or}
+use Rattle.std.proofs.Common.{◌≡◌, ℕ, zero, suc, ◌+◌, ◌<◌, ◌≤◌, true, List, [], ◌∷◌, length, get_or, replicate, Option, Some, None, refl, ap, ◌∙◌, arith, All, unwrap_or}
 use Rattle.std.specs.Prelude.{is_some}
 use Rattle.std.specs.List.{list_any, Contains}
 use Rattle.std.specs.List.Sorted.{IsStrictlyIncreasing}
 use native.Mathlib.Numerals.{unary_clauses}
 use Rattle.std.proofs.lemmas.List.Elements.{All-cons, All-nil}
+use Rattle.t1s_base.specs.NodeIds.{IsIds}
 use Rattle.t1s_base.specs.Limits.{most_nodes, last_node, most_ticks}
 use Rattle.t1s_script.specs.Limits.{most_draws, last_draw, longest_stub}
 use Rattle.t1s_script.specs.Reading.{draw_list}
@@ -14,7 +15,7 @@ use Rattle.t1s_script.specs.declared.draft.Slot.{Slot}
 
 -- the numbers of a slot are in their ranges
 pub record IsSlot (slot : Slot) : Type 0 where
-  pub id : slot.id ≤ 255
+  pub ids : IsIds slot.ids
   pub place : slot.place ≤ 255
   pub stub : (u : ℕ) → slot.stub ≡ Some u → u ≤ longest_stub
   pub to : (n : ℕ) → slot.to ≡ Some n → (16 ≤ n) × (n ≤ 255)
@@ -48,7 +49,7 @@ draws_range (draw ∷ draws) few h = (few, h)
 node_range : (to number : ℕ) (slot : Slot) → 16 ≤ to → to ≤ 255 → number ≤ last_node → IsSlot slot → IsNodeLine (node_of to number slot)
 node_range to number slot low high few h = record {
   no_high = few;
-  id_high = h.id;
+  ids = h.ids;
   place_high = h.place;
   stub_high = stub_range slot.stub h.stub;
   to_low = (timer_range slot.to to low high h.to).0;
@@ -104,3 +105,12 @@ number_stands to number k (Some slot ∷ slots) zero place taken = (0, omega ari
 number_stands to number k (Some slot ∷ slots) (suc i) place taken =
     let later = number_stands to (number + 1) k slots i (omega arith) taken in
     (suc later.0, omega (arith, later.1), later.2)
+
+-- ---- free slots
+
+pub all_free : (slots : List (Option Slot)) (count : ℕ) → length slots ≡ count → ((i : ℕ) → i < count → get_or slots i None ≡ None) → slots ≡ replicate count None
+all_free [] zero size free = refl
+all_free [] (suc count) size free = absurd (omega arith)
+all_free (o ∷ slots) zero size free = absurd (omega arith)
+all_free (o ∷ slots) (suc count) size free =
+    ap (λ first. first ∷ slots) (free 0 (omega arith)) ∙ ap (λ rest. None ∷ rest) (all_free slots count (omega arith) (λ i below. free (suc i) (omega arith)))

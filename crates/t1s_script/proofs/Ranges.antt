@@ -13,18 +13,20 @@ use Rattle.t1s_base.specs.Numbers.{number_of}
 use Rattle.t1s_base.specs.Limits.{last_node, most_ticks}
 use Rattle.t1s_script.specs.Lines.{fields_of}
 use Rattle.t1s_script.specs.Settings.{lowest, highest, setting_range}
-use Rattle.t1s_script.specs.Limits.{last_draw, longest_stub}
+use Rattle.t1s_script.specs.Limits.{last_draw, last_further_id, longest_stub}
 use Rattle.t1s_script.specs.FrameTexts.{frame_within, frame_decoded, hex_frame, sole_octet, frame_filled, fill_frame}
+use Rattle.t1s_script.specs.Versions.{last_node_of, most_ticks_of}
 use Rattle.t1s_script.specs.ParsedLine.{word_in, up_to, is_within, one_within, two_within, three_within, one_number, two_numbers, three_numbers, says, offers, offer_in, fills, fill_in, lasts, line_by_word, line_in, is_skipped, parsed_line}
 use Rattle.t1s_script.specs.declared.refusals.ScriptReason.{ScriptReason}
 use Rattle.t1s_script.specs.declared.refusals.ScriptReason.TheVariants.{OutOfRange, FrameSize}
 use Rattle.t1s_script.specs.declared.versions.Version.{Version}
+use Rattle.t1s_script.specs.declared.versions.Version.TheVariants.{V1, V2, V3}
 use Rattle.t1s_script.specs.declared.words.Range.{Range}
 use Rattle.t1s_script.specs.declared.words.Setting.TheVariants.{To}
 use Rattle.t1s_script.specs.declared.words.Word.{Word}
-use Rattle.t1s_script.specs.declared.words.Word.TheVariants.{Set as SetWord, Seed as SeedWord, Node as NodeWord, Stub as StubWord, Late as LateWord, ToNode as ToNodeWord, Draw as DrawWord, Offer as OfferWord, Fill as FillWord, Noise as NoiseWord, End as EndWord}
+use Rattle.t1s_script.specs.declared.words.Word.TheVariants.{Set as SetWord, Seed as SeedWord, Node as NodeWord, Also as AlsoWord, Stub as StubWord, Late as LateWord, ToNode as ToNodeWord, Draw as DrawWord, Offer as OfferWord, Fill as FillWord, Noise as NoiseWord, End as EndWord}
 use Rattle.t1s_script.specs.declared.words.ScriptLine.{ScriptLine}
-use Rattle.t1s_script.specs.declared.words.ScriptLine.TheVariants.{Skipped, Set, Seed, Node, Stub, Late, ToNode, Draw, Offer, Noise, End}
+use Rattle.t1s_script.specs.declared.words.ScriptLine.TheVariants.{Skipped, Set, Seed, Node, Also, Stub, Late, ToNode, Draw, Offer, Noise, End}
 
 -- the numbers of a line are in their ranges
 abbrev pub InRange : ScriptLine → Type 0
@@ -32,6 +34,7 @@ InRange Skipped = Unit {0}
 InRange (Set w n) = (lowest w ≤ n) × (n ≤ highest w)
 InRange (Seed n) = n ≤ 4294967295
 InRange (Node number id place) = (number ≤ last_node) × (id ≤ 255) × (place ≤ 255)
+InRange (Also number id) = (number ≤ last_node) × (id ≤ last_further_id)
 InRange (Stub number stub) = (number ≤ last_node) × (stub ≤ longest_stub)
 InRange (Late number start) = (number ≤ last_node) × (start ≤ most_ticks)
 InRange (ToNode number to) = (number ≤ last_node) × (16 ≤ to) × (to ≤ 255)
@@ -136,88 +139,109 @@ fill_range count text f e = go (decode_of text) refl e
     go (Ok (x ∷ y ∷ ys)) read e = cc
     go (Err error) read e = cc
 
+-- ---- the limits of a version
+
+few_nodes : (version : Version) (n : ℕ) → n ≤ last_node_of version → n ≤ last_node
+few_nodes V1 n low = omega arith
+few_nodes V2 n low = omega arith
+few_nodes V3 n low = low
+
+few_ticks : (version : Version) (n : ℕ) → n ≤ most_ticks_of version → n ≤ most_ticks
+few_ticks V1 n low = omega arith
+few_ticks V2 n low = omega arith
+few_ticks V3 n low = low
+
 -- ---- lines
 
-offers_range : (target : Result (ℕ × ℕ) ScriptReason) (frame : Result (List ℕ) ScriptReason) (l : ScriptLine)
-    → ((t : ℕ × ℕ) → target ≡ Ok t → In (up_to most_ticks) t.0 × In (up_to last_node) t.1) → ((f : List ℕ) → frame ≡ Ok f → IsFrame f) → offers target frame ≡ Ok l → InRange l
-offers_range (Ok t) frame l near whole e =
-    let range = near t refl in
-    says_range (λ octets. Offer t.0 t.1 octets) frame l (λ f made. (range.0.1, range.1.1, whole f made)) e
-offers_range (Err reason) frame l near whole e = cc
+module _ (version : Version) where
+  abbrev ticks : Range
+  ticks = up_to (most_ticks_of version)
 
-fills_range : (numbers : Result (ℕ × ℕ × ℕ) ScriptReason) (text : List ℕ) (l : ScriptLine)
-    → ((ns : ℕ × ℕ × ℕ) → numbers ≡ Ok ns → In (up_to most_ticks) ns.0 × In (up_to last_node) ns.1 × In (up_to 9999999999) ns.2) → fills numbers text ≡ Ok l → InRange l
-fills_range (Ok ns) text l near e =
-    let range = near ns refl in
-    let here : In (up_to most_ticks) ns.0 = range.0 in
-    let there : In (up_to last_node) ns.1 = range.1 in
-    says_range (λ octets. Offer ns.0 ns.1 octets) (fill_frame ns.2 text) l (λ f made. (here.1, there.1, fill_range ns.2 text f made)) e
-fills_range (Err reason) text l near e = cc
+  abbrev nodes : Range
+  nodes = up_to (last_node_of version)
 
-offer_range : (fields : List (List ℕ)) (l : ScriptLine) → offer_in fields ≡ Ok l → InRange l
-offer_range [] l e = cc
-offer_range (f ∷ []) l e = cc
-offer_range (f ∷ g ∷ []) l e = cc
-offer_range (f ∷ g ∷ h ∷ []) l e =
-    offers_range (two_within (up_to most_ticks) (up_to last_node) (number_of f) (number_of g)) (hex_frame h) l
-    (λ t made. two_in (up_to most_ticks) (up_to last_node) (number_of f) (number_of g) t made) (hex_range h) e
-offer_range (f ∷ g ∷ h ∷ i ∷ fs) l e = cc
+  offers_range : (target : Result (ℕ × ℕ) ScriptReason) (frame : Result (List ℕ) ScriptReason) (l : ScriptLine)
+      → ((t : ℕ × ℕ) → target ≡ Ok t → In ticks t.0 × In nodes t.1) → ((f : List ℕ) → frame ≡ Ok f → IsFrame f) → offers target frame ≡ Ok l → InRange l
+  offers_range (Ok t) frame l near whole e =
+      let range = near t refl in
+      says_range (λ octets. Offer t.0 t.1 octets) frame l (λ f made. (few_ticks version t.0 range.0.1, few_nodes version t.1 range.1.1, whole f made)) e
+  offers_range (Err reason) frame l near whole e = cc
 
-fill_line_range : (fields : List (List ℕ)) (l : ScriptLine) → fill_in fields ≡ Ok l → InRange l
-fill_line_range [] l e = cc
-fill_line_range (f ∷ []) l e = cc
-fill_line_range (f ∷ g ∷ []) l e = cc
-fill_line_range (f ∷ g ∷ h ∷ []) l e = cc
-fill_line_range (f ∷ g ∷ h ∷ i ∷ []) l e =
-    fills_range (three_within (up_to most_ticks) (up_to last_node) (up_to 9999999999) (number_of f) (number_of g) (number_of h)) i l
-    (λ ns made. three_in (up_to most_ticks) (up_to last_node) (up_to 9999999999) (number_of f) (number_of g) (number_of h) ns made) e
-fill_line_range (f ∷ g ∷ h ∷ i ∷ j ∷ fs) l e = cc
+  fills_range : (numbers : Result (ℕ × ℕ × ℕ) ScriptReason) (text : List ℕ) (l : ScriptLine)
+      → ((ns : ℕ × ℕ × ℕ) → numbers ≡ Ok ns → In ticks ns.0 × In nodes ns.1 × In (up_to 9999999999) ns.2) → fills numbers text ≡ Ok l → InRange l
+  fills_range (Ok ns) text l near e =
+      let range = near ns refl in
+      let here : In ticks ns.0 = range.0 in
+      let there : In nodes ns.1 = range.1 in
+      says_range (λ octets. Offer ns.0 ns.1 octets) (fill_frame ns.2 text) l (λ f made. (few_ticks version ns.0 here.1, few_nodes version ns.1 there.1, fill_range ns.2 text f made)) e
+  fills_range (Err reason) text l near e = cc
 
-lasts_range : (ticks : Result (ℕ × ℕ) ScriptReason) (l : ScriptLine)
-    → ((ns : ℕ × ℕ) → ticks ≡ Ok ns → In (up_to most_ticks) ns.0 × In (up_to most_ticks) ns.1) → lasts ticks ≡ Ok l → InRange l
-lasts_range (Err reason) l near e = cc
-lasts_range (Ok ns) l near e = go (ltb ns.0 ns.1) refl e
-  where
-    go : (b : Bool) → ltb ns.0 ns.1 ≡ b → cond b (Ok (Noise ns.0 ns.1)) (Err OutOfRange) ≡ Ok l → InRange l
-    go true test e =
-        let same : Noise ns.0 ns.1 ≡ l = cc in
-        let there : In (up_to most_ticks) ns.1 = (near ns refl).1 in
-        subst InRange same ((let later = test in grind (arith, nat_tests)), there.1)
-    go false test e = cc
+  offer_range : (fields : List (List ℕ)) (l : ScriptLine) → offer_in version fields ≡ Ok l → InRange l
+  offer_range [] l e = cc
+  offer_range (f ∷ []) l e = cc
+  offer_range (f ∷ g ∷ []) l e = cc
+  offer_range (f ∷ g ∷ h ∷ []) l e =
+      offers_range (two_within ticks nodes (number_of f) (number_of g)) (hex_frame h) l
+      (λ t made. two_in ticks nodes (number_of f) (number_of g) t made) (hex_range h) e
+  offer_range (f ∷ g ∷ h ∷ i ∷ fs) l e = cc
 
-line_by_word_range : (w : Option Word) (fields : List (List ℕ)) (l : ScriptLine) → line_by_word w fields ≡ Ok l → InRange l
-line_by_word_range None fields l e = cc
-line_by_word_range (Some (SetWord w)) fields l e = says_range (λ n. Set w n) (one_number (setting_range w) fields) l (one_of (setting_range w) fields) e
-line_by_word_range (Some SeedWord) fields l e = says_range (λ n. Seed n) (one_number (up_to 4294967295) fields) l (λ n made. (one_of (up_to 4294967295) fields n made).1) e
-line_by_word_range (Some NodeWord) fields l e =
-    says_range (λ n. Node n.0 n.1 n.2) (three_numbers (up_to last_node) (up_to 255) (up_to 255) fields) l
-    (λ ns made. (let r = three_of (up_to last_node) (up_to 255) (up_to 255) fields ns made in (r.0.1, r.1.1, r.2.1))) e
-line_by_word_range (Some StubWord) fields l e =
-    says_range (λ n. Stub n.0 n.1) (two_numbers (up_to last_node) (up_to longest_stub) fields) l
-    (λ ns made. (let r = two_of (up_to last_node) (up_to longest_stub) fields ns made in (r.0.1, r.1.1))) e
-line_by_word_range (Some LateWord) fields l e =
-    says_range (λ n. Late n.0 n.1) (two_numbers (up_to last_node) (up_to most_ticks) fields) l
-    (λ ns made. (let r = two_of (up_to last_node) (up_to most_ticks) fields ns made in (r.0.1, r.1.1))) e
-line_by_word_range (Some ToNodeWord) fields l e =
-    says_range (λ n. ToNode n.0 n.1) (two_numbers (up_to last_node) (setting_range To) fields) l
-    (λ ns made. (let r = two_of (up_to last_node) (setting_range To) fields ns made in (r.0.1, r.1.0, r.1.1))) e
-line_by_word_range (Some DrawWord) fields l e =
-    says_range (λ n. Draw n.0 n.1) (two_numbers (up_to last_node) (up_to last_draw) fields) l
-    (λ ns made. (let r = two_of (up_to last_node) (up_to last_draw) fields ns made in (r.0.1, r.1.1))) e
-line_by_word_range (Some OfferWord) fields l e = offer_range fields l e
-line_by_word_range (Some FillWord) fields l e = fill_line_range fields l e
-line_by_word_range (Some NoiseWord) fields l e =
-    lasts_range (two_numbers (up_to most_ticks) (up_to most_ticks) fields) l (two_of (up_to most_ticks) (up_to most_ticks) fields) e
-line_by_word_range (Some EndWord) fields l e =
-    says_range (λ n. End n) (one_number (record { least = 1; greatest = most_ticks }) fields) l (one_of (record { least = 1; greatest = most_ticks }) fields) e
+  fill_line_range : (fields : List (List ℕ)) (l : ScriptLine) → fill_in version fields ≡ Ok l → InRange l
+  fill_line_range [] l e = cc
+  fill_line_range (f ∷ []) l e = cc
+  fill_line_range (f ∷ g ∷ []) l e = cc
+  fill_line_range (f ∷ g ∷ h ∷ []) l e = cc
+  fill_line_range (f ∷ g ∷ h ∷ i ∷ []) l e =
+      fills_range (three_within ticks nodes (up_to 9999999999) (number_of f) (number_of g) (number_of h)) i l
+      (λ ns made. three_in ticks nodes (up_to 9999999999) (number_of f) (number_of g) (number_of h) ns made) e
+  fill_line_range (f ∷ g ∷ h ∷ i ∷ j ∷ fs) l e = cc
 
-line_in_range : (version : Version) (fields : List (List ℕ)) (l : ScriptLine) → line_in version fields ≡ Ok l → InRange l
-line_in_range version [] l e = cc
-line_in_range version (f ∷ fs) l e = line_by_word_range (word_in version f) fs l e
+  lasts_range : (both : Result (ℕ × ℕ) ScriptReason) (l : ScriptLine) → ((ns : ℕ × ℕ) → both ≡ Ok ns → In ticks ns.0 × In ticks ns.1) → lasts both ≡ Ok l → InRange l
+  lasts_range (Err reason) l near e = cc
+  lasts_range (Ok ns) l near e = go (ltb ns.0 ns.1) refl e
+    where
+      go : (b : Bool) → ltb ns.0 ns.1 ≡ b → cond b (Ok (Noise ns.0 ns.1)) (Err OutOfRange) ≡ Ok l → InRange l
+      go true test e =
+          let same : Noise ns.0 ns.1 ≡ l = cc in
+          let there : In ticks ns.1 = (near ns refl).1 in
+          subst InRange same ((let later = test in grind (arith, nat_tests)), few_ticks version ns.1 there.1)
+      go false test e = cc
 
-pub parsed_line_range : (version : Version) (line : List ℕ) (l : ScriptLine) → parsed_line version line ≡ Ok l → InRange l
-parsed_line_range version line l e = go (is_skipped line) e
-  where
-    go : (b : Bool) → cond b (Ok Skipped) (line_in version (fields_of line)) ≡ Ok l → InRange l
-    go true e = let same : Skipped ≡ l = cc in subst InRange same tt
-    go false e = line_in_range version (fields_of line) l e
+  line_by_word_range : (w : Option Word) (fields : List (List ℕ)) (l : ScriptLine) → line_by_word version w fields ≡ Ok l → InRange l
+  line_by_word_range None fields l e = cc
+  line_by_word_range (Some (SetWord w)) fields l e = says_range (λ n. Set w n) (one_number (setting_range w) fields) l (one_of (setting_range w) fields) e
+  line_by_word_range (Some SeedWord) fields l e = says_range (λ n. Seed n) (one_number (up_to 4294967295) fields) l (λ n made. (one_of (up_to 4294967295) fields n made).1) e
+  line_by_word_range (Some NodeWord) fields l e =
+      says_range (λ n. Node n.0 n.1 n.2) (three_numbers nodes (up_to 255) (up_to 255) fields) l
+      (λ ns made. (let r = three_of nodes (up_to 255) (up_to 255) fields ns made in (few_nodes version ns.0 r.0.1, r.1.1, r.2.1))) e
+  line_by_word_range (Some AlsoWord) fields l e =
+      says_range (λ n. Also n.0 n.1) (two_numbers nodes (up_to last_further_id) fields) l
+      (λ ns made. (let r = two_of nodes (up_to last_further_id) fields ns made in (few_nodes version ns.0 r.0.1, r.1.1))) e
+  line_by_word_range (Some StubWord) fields l e =
+      says_range (λ n. Stub n.0 n.1) (two_numbers nodes (up_to longest_stub) fields) l
+      (λ ns made. (let r = two_of nodes (up_to longest_stub) fields ns made in (few_nodes version ns.0 r.0.1, r.1.1))) e
+  line_by_word_range (Some LateWord) fields l e =
+      says_range (λ n. Late n.0 n.1) (two_numbers nodes ticks fields) l
+      (λ ns made. (let r = two_of nodes ticks fields ns made in (few_nodes version ns.0 r.0.1, few_ticks version ns.1 r.1.1))) e
+  line_by_word_range (Some ToNodeWord) fields l e =
+      says_range (λ n. ToNode n.0 n.1) (two_numbers nodes (setting_range To) fields) l
+      (λ ns made. (let r = two_of nodes (setting_range To) fields ns made in (few_nodes version ns.0 r.0.1, r.1.0, r.1.1))) e
+  line_by_word_range (Some DrawWord) fields l e =
+      says_range (λ n. Draw n.0 n.1) (two_numbers nodes (up_to last_draw) fields) l
+      (λ ns made. (let r = two_of nodes (up_to last_draw) fields ns made in (few_nodes version ns.0 r.0.1, r.1.1))) e
+  line_by_word_range (Some OfferWord) fields l e = offer_range fields l e
+  line_by_word_range (Some FillWord) fields l e = fill_line_range fields l e
+  line_by_word_range (Some NoiseWord) fields l e = lasts_range (two_numbers ticks ticks fields) l (two_of ticks ticks fields) e
+  line_by_word_range (Some EndWord) fields l e =
+      let ends : Range = record { least = 1; greatest = most_ticks_of version } in
+      says_range (λ n. End n) (one_number ends fields) l (λ n made. (let r = one_of ends fields n made in (r.0, few_ticks version n r.1))) e
+
+  line_in_range : (fields : List (List ℕ)) (l : ScriptLine) → line_in version fields ≡ Ok l → InRange l
+  line_in_range [] l e = cc
+  line_in_range (f ∷ fs) l e = line_by_word_range (word_in version f) fs l e
+
+  pub parsed_line_range : (line : List ℕ) (l : ScriptLine) → parsed_line version line ≡ Ok l → InRange l
+  parsed_line_range line l e = go (is_skipped line) e
+    where
+      go : (b : Bool) → cond b (Ok Skipped) (line_in version (fields_of line)) ≡ Ok l → InRange l
+      go true e = let same : Skipped ≡ l = cc in subst InRange same tt
+      go false e = line_in_range (fields_of line) l e

@@ -18,10 +18,10 @@ use Rattle.t1s_script.specs.declared.draft.Slot.{Slot}
 use Rattle.t1s_script.specs.declared.refusals.ScriptReason.TheVariants.{TooLong, Twice, Order, NoNode}
 use Rattle.t1s_script.specs.declared.refusals.ScriptRefusal.{ScriptRefusal}
 use Rattle.t1s_script.specs.declared.script.Script.{Script}
-use Rattle.t1s_script.specs.declared.versions.Version.TheVariants.{V1, V2}
+use Rattle.t1s_script.specs.declared.versions.Version.TheVariants.{V1, V2, V3}
 use Rattle.t1s_script.specs.declared.words.Setting.TheVariants.{Count, To, Rise, Fall, Burst, Room}
 use Rattle.t1s_script.specs.declared.words.ScriptLine.{ScriptLine}
-use Rattle.t1s_script.specs.declared.words.ScriptLine.TheVariants.{Skipped, Set, Seed, Node, Stub, Late, ToNode, Draw, Offer, Noise, End}
+use Rattle.t1s_script.specs.declared.words.ScriptLine.TheVariants.{Skipped, Set, Seed, Node, Also, Stub, Late, ToNode, Draw, Offer, Noise, End}
 use Rattle.t1s_script.proofs.Ranges.{InRange, parsed_line_range}
 use Rattle.t1s_script.proofs.DraftSteps.{any_set, none_free}
 use Rattle.t1s_script.proofs.Drafts.{reading_from, by_drafts}
@@ -32,6 +32,7 @@ Reads r = (s : Script) × (r ≡ Ok s) × IsThinScript s
 
 -- only the `node` line of that number stood
 record IsPlain (slot : Slot) : Type 0 where
+  pub one_id : length slot.ids ≡ 1
   pub stub : slot.stub ≡ None
   pub to : slot.to ≡ None
   pub start : slot.start ≡ None
@@ -59,7 +60,7 @@ nodes_thin to number [] timer h = All-nil IsThinNode
 nodes_thin to number (None ∷ slots) timer h = nodes_thin to (number + 1) slots timer (λ i slot e. h (suc i) slot e)
 nodes_thin to number (Some slot ∷ slots) timer h =
     All-cons IsThinNode (node_of to number slot) (nodes_from to (number + 1) slots)
-    (record { stub = ap (λ o. unwrap_or o 0) (h 0 slot refl).stub; to = ap (λ o. unwrap_or o to) (h 0 slot refl).to ∙ timer; start = ap (λ o. unwrap_or o 0) (h 0 slot refl).start; draws = ap draw_list (h 0 slot refl).draws })
+    (record { one_id = (h 0 slot refl).one_id; stub = ap (λ o. unwrap_or o 0) (h 0 slot refl).stub; to = ap (λ o. unwrap_or o to) (h 0 slot refl).to ∙ timer; start = ap (λ o. unwrap_or o 0) (h 0 slot refl).start; draws = ap draw_list (h 0 slot refl).draws })
     (nodes_thin to (number + 1) slots timer (λ i s e. h (suc i) s e))
 
 script_thin : (least : ℕ) (d : Draft) (last : ℕ) → IsThinDraft least d → IsThinScript (script_with (record d { end = Some last }) last)
@@ -108,7 +109,7 @@ node_thin least number id place d h above = record {
   end = h.end;
   size = length-set d.slots number (Some (new_slot id place)) ∙ h.size;
   free = λ i high. free_set d.slots number (new_slot id place) i (omega arith) (h.free i (omega arith));
-  plain = plain_set d.slots number (new_slot id place) (record { stub = refl; to = refl; start = refl; draws = refl }) h.plain;
+  plain = plain_set d.slots number (new_slot id place) (record { one_id = refl; stub = refl; to = refl; start = refl; draws = refl }) h.plain;
   acts = h.acts;
   latest = h.latest;
 }
@@ -136,6 +137,7 @@ one_read number least d (Err reason) rest range h any next thin = cc
 one_read number least d (Ok Skipped) rest range h any next thin = cc
 one_read number least d (Ok (Set w n)) rest range h any next thin = cc
 one_read number least d (Ok (Seed n)) rest range h any next thin = cc
+one_read number least d (Ok (Also n id)) rest range h any next thin = cc
 one_read number least d (Ok (Stub n stub)) rest range h any next thin = cc
 one_read number least d (Ok (Late n start)) rest range h any next thin = cc
 one_read number least d (Ok (ToNode n to)) rest range h any next thin = cc
@@ -167,6 +169,7 @@ after_count_read number d (line ∷ lines) h thin = go (parsed_line V1 line) (pa
     go (Ok Skipped) range thin = cc
     go (Ok (Set w n)) range thin = cc
     go (Ok (Seed n)) range thin = cc
+    go (Ok (Also n id)) range thin = cc
     go (Ok (Stub n stub)) range thin = cc
     go (Ok (Late n start)) range thin = cc
     go (Ok (ToNode n to)) range thin = cc
@@ -208,6 +211,7 @@ lines_read (line ∷ lines) thin = go (parsed_line V1 line) thin
     go (Ok Skipped) thin = cc
     go (Ok (Seed n)) thin = cc
     go (Ok (Node n id place)) thin = cc
+    go (Ok (Also n id)) thin = cc
     go (Ok (Stub n stub)) thin = cc
     go (Ok (Late n start)) thin = cc
     go (Ok (ToNode n to)) thin = cc
@@ -228,7 +232,7 @@ all_read (first ∷ lines) thin =
     let first_holds = first_so (bytes_eq first (codes "t1s 1")) (are_thin (map (parsed_line V1) lines)) thin in
     let second_holds = second_so (bytes_eq first (codes "t1s 1")) (are_thin (map (parsed_line V1) lines)) thin in
     let read = lines_read lines second_holds in
-    (read.0, ap (λ b. script_with_version (cond b (Some V1) (cond (bytes_eq first (codes "t1s 2")) (Some V2) None)) lines) first_holds ∙ sym (by_drafts V1 lines) ∙ read.1, read.2)
+    (read.0, ap (λ b. script_with_version (cond b (Some V1) (cond (bytes_eq first (codes "t1s 2")) (Some V2) (cond (bytes_eq first (codes "t1s 3")) (Some V3) None))) lines) first_holds ∙ sym (by_drafts V1 lines) ∙ read.1, read.2)
 
 pub thin_scripts : ThinScriptsHaveDefaults
 thin_scripts octets thin =

@@ -10,15 +10,16 @@ use Rattle.std.proofs.lemmas.List.Elements.{All-append, All-cons, All-nil, filte
 use Rattle.std.proofs.lemmas.List.FromFn.{length-range_with_len, get_or-range_with_len}
 use Rattle.std.proofs.lemmas.List.Sorted.{IsNonDecreasingBy-push}
 use Rattle.t1s_frame.specs.Frame.{IsFrame}
+use Rattle.t1s_base.specs.NodeIds.{has_id}
 use Rattle.t1s_base.specs.Limits.{most_nodes, last_node, most_ticks}
 use Rattle.t1s_script.specs.Lines.{lines_of}
 use Rattle.t1s_script.specs.Settings.{lowest, highest, default_of}
-use Rattle.t1s_script.specs.Limits.{most_acts, most_draws, last_draw, longest_stub}
+use Rattle.t1s_script.specs.Limits.{most_acts, most_draws, most_ids, last_draw, last_further_id, longest_stub}
 use Rattle.t1s_script.specs.Versions.{version_of}
 use Rattle.t1s_script.specs.ParsedLine.{ParsedLine, parsed_line}
-use Rattle.t1s_script.specs.Draft.{given, with_given, value_in, draft_start, slot_at, with_slot, set_after, seed_after, node_after, new_slot, once_in_slot, stub_after, late_after, timer_after, draw_in_slot, draw_after, with_act, timed_after, offer_after, end_after, line_after, unskipped_after, draft_after, nodes_from, script_with, script_at}
+use Rattle.t1s_script.specs.Draft.{given, with_given, value_in, draft_start, slot_at, with_slot, set_after, seed_after, node_after, new_slot, also_in_slot, also_after, once_in_slot, stub_after, late_after, timer_after, draw_in_slot, draw_after, with_act, timed_after, offer_after, end_after, line_after, unskipped_after, draft_after, nodes_from, script_with, script_at}
 use Rattle.t1s_script.specs.Script.{IsAct, IsDeed, IsScript, numbers_of, number_in, offer_number, offers_in}
-use Rattle.t1s_script.specs.Reading.{act_at, script_after_first, script_with_version, script_in, script_of, refused_at, IsAnswer, ReadScriptsAreValid}
+use Rattle.t1s_script.specs.Reading.{act_at, script_with_version, script_in, script_of, refused_at, IsAnswer, ReadScriptsAreValid}
 use Rattle.t1s_script.specs.declared.refusals.ScriptFault.{ScriptFault}
 use Rattle.t1s_script.specs.declared.refusals.ScriptFault.TheVariants.{Refused, Memory}
 use Rattle.t1s_script.specs.declared.draft.Draft.{Draft}
@@ -34,10 +35,11 @@ use Rattle.t1s_script.specs.declared.versions.Version.{Version}
 use Rattle.t1s_script.specs.declared.words.Setting.{Setting}
 use Rattle.t1s_script.specs.declared.words.Setting.TheVariants.{Count, To, Rise, Fall, Burst, Room}
 use Rattle.t1s_script.specs.declared.words.ScriptLine.{ScriptLine}
-use Rattle.t1s_script.specs.declared.words.ScriptLine.TheVariants.{Skipped, Set, Seed, Node, Stub, Late, ToNode, Draw, Offer, Noise, End}
+use Rattle.t1s_script.specs.declared.words.ScriptLine.TheVariants.{Skipped, Set, Seed, Node, Also, Stub, Late, ToNode, Draw, Offer, Noise, End}
 use Rattle.t1s_script.proofs.Ranges.{InRange, parsed_line_range}
 use Rattle.t1s_script.proofs.LineActs.{length-filter_map, offers_in-append}
 use Rattle.t1s_script.proofs.Drafts.{reading_from, by_drafts}
+use Rattle.t1s_script.proofs.FurtherIds.{one_id, one_id_more}
 use Rattle.t1s_script.proofs.Nodes.{IsSlot, AreSlots, nodes_range, length-nodes_from, some_node, nodes_increase, number_stands}
 
 -- the number of a setting is in its range, where one is given
@@ -244,7 +246,31 @@ module _ (d : Draft) (h : IsDraft d) (open_end : d.end ≡ None) where
       go true is = cc
       go false is =
           let same : with_slot d number (new_slot id place) ≡ e = cc in
-          subst IsDraft same (slot_valid number (new_slot id place) (record { id = range.1; place = range.2; stub = λ u f. cc; to = λ n f. cc; start = λ t f. cc; few_draws = omega arith; draws = All-nil (λ draw. draw ≤ last_draw) }))
+          subst IsDraft same (slot_valid number (new_slot id place) (record { ids = one_id id range.1; place = range.2; stub = λ u f. cc; to = λ n f. cc; start = λ t f. cc; few_draws = omega arith; draws = All-nil (λ draw. draw ≤ last_draw) }))
+
+  also_valid : (number id : ℕ) (e : Draft) → id ≤ last_further_id → also_after d number id ≡ Ok e → IsDraft e
+  also_valid number id e range is = at (slot_at d number) refl is
+    where
+      at : (o : Option Slot) → slot_at d number ≡ o → also_in_slot d number id o ≡ Ok e → IsDraft e
+      at None here is = cc
+      at (Some slot) here is = go (has_id slot.ids id) (leb most_ids (length slot.ids)) refl refl is
+        where
+          go : (a b : Bool) → has_id slot.ids id ≡ a → leb most_ids (length slot.ids) ≡ b → cond a (Err Twice) (cond b (Err TooMany) (Ok (with_slot d number (record slot { ids = slot.ids ++ id ∷ [] })))) ≡ Ok e → IsDraft e
+          go true b again full is = cc
+          go false true again full is = cc
+          go false false again full is =
+              let same : with_slot d number (record slot { ids = slot.ids ++ id ∷ [] }) ≡ e = cc in
+              let old : IsSlot slot = h.slots.each number slot here in
+              let room : length slot.ids < most_ids = (let test = full in grind (arith, nat_tests)) in
+              subst IsDraft same (slot_valid number (record slot { ids = slot.ids ++ id ∷ [] }) (record {
+                ids = one_id_more slot.ids id old.ids again room (omega arith);
+                place = old.place;
+                stub = old.stub;
+                to = old.to;
+                start = old.start;
+                few_draws = old.few_draws;
+                draws = old.draws;
+              }))
 
   -- a line that may stand once for a node, where what it puts into a slot is in range
   once_valid : (number : ℕ) (stood : Slot → Option ℕ) (put : Slot → Slot) (e : Draft) → ((slot : Slot) → IsSlot slot → IsSlot (put slot)) → once_in_slot d number stood put (slot_at d number) ≡ Ok e → IsDraft e
@@ -262,15 +288,15 @@ module _ (d : Draft) (h : IsDraft d) (open_end : d.end ≡ None) where
 
   stub_valid : (number stub : ℕ) (e : Draft) → stub ≤ longest_stub → stub_after d number stub ≡ Ok e → IsDraft e
   stub_valid number stub e range is = once_valid number (λ s. s.stub) (λ s. record s { stub = Some stub }) e
-      (λ slot old. record { id = old.id; place = old.place; stub = λ u f. (let now : stub ≡ u = cc in subst (λ k. k ≤ longest_stub) now range); to = old.to; start = old.start; few_draws = old.few_draws; draws = old.draws }) is
+      (λ slot old. record { ids = old.ids; place = old.place; stub = λ u f. (let now : stub ≡ u = cc in subst (λ k. k ≤ longest_stub) now range); to = old.to; start = old.start; few_draws = old.few_draws; draws = old.draws }) is
 
   late_valid : (number start : ℕ) (e : Draft) → start ≤ most_ticks → late_after d number start ≡ Ok e → IsDraft e
   late_valid number start e range is = once_valid number (λ s. s.start) (λ s. record s { start = Some start }) e
-      (λ slot old. record { id = old.id; place = old.place; stub = old.stub; to = old.to; start = λ t f. (let now : start ≡ t = cc in subst (λ k. k ≤ most_ticks) now range); few_draws = old.few_draws; draws = old.draws }) is
+      (λ slot old. record { ids = old.ids; place = old.place; stub = old.stub; to = old.to; start = λ t f. (let now : start ≡ t = cc in subst (λ k. k ≤ most_ticks) now range); few_draws = old.few_draws; draws = old.draws }) is
 
   timer_valid : (number to : ℕ) (e : Draft) → (16 ≤ to) × (to ≤ 255) → timer_after d number to ≡ Ok e → IsDraft e
   timer_valid number to e range is = once_valid number (λ s. s.to) (λ s. record s { to = Some to }) e
-      (λ slot old. record { id = old.id; place = old.place; stub = old.stub; to = λ n f. (let now : to ≡ n = cc in subst (λ k. (16 ≤ k) × (k ≤ 255)) now range); start = old.start; few_draws = old.few_draws; draws = old.draws }) is
+      (λ slot old. record { ids = old.ids; place = old.place; stub = old.stub; to = λ n f. (let now : to ≡ n = cc in subst (λ k. (16 ≤ k) × (k ≤ 255)) now range); start = old.start; few_draws = old.few_draws; draws = old.draws }) is
 
   draw_valid : (number draw : ℕ) (e : Draft) → (number ≤ last_node) × (draw ≤ last_draw) → draw_after d number draw ≡ Ok e → IsDraft e
   draw_valid number draw e range is = at (slot_at d number) refl is
@@ -288,7 +314,7 @@ module _ (d : Draft) (h : IsDraft d) (open_end : d.end ≡ None) where
               let small : draw ≤ last_draw = range.1 in
               let low : ℕ → Type 0 = λ n. n ≤ last_draw in
               subst IsDraft same (slot_valid number (record slot { draws = slot.draws ++ draw ∷ [] }) (record {
-                id = old.id;
+                ids = old.ids;
                 place = old.place;
                 stub = old.stub;
                 to = old.to;
@@ -344,6 +370,7 @@ module _ (d : Draft) (h : IsDraft d) (open_end : d.end ≡ None) where
   line_valid (Set w m) e range is = set_valid w m e range is
   line_valid (Seed m) e range is = seed_valid m e range is
   line_valid (Node number id place) e range is = node_valid number id place e range is
+  line_valid (Also number id) e range is = also_valid number id e range.1 is
   line_valid (Stub number stub) e range is = stub_valid number stub e range.1 is
   line_valid (Late number start) e range is = late_valid number start e range.1 is
   line_valid (ToNode number to) e range is = timer_valid number to e (range.1, range.2) is
@@ -366,6 +393,7 @@ draft_valid d (Ok Skipped) e h range is = let same : d ≡ e = cc in subst IsDra
 draft_valid d (Ok (Set w m)) e h range is = unskipped_valid d d.end (Set w m) e h refl (range (Set w m) refl) is
 draft_valid d (Ok (Seed m)) e h range is = unskipped_valid d d.end (Seed m) e h refl (range (Seed m) refl) is
 draft_valid d (Ok (Node number id place)) e h range is = unskipped_valid d d.end (Node number id place) e h refl (range (Node number id place) refl) is
+draft_valid d (Ok (Also number id)) e h range is = unskipped_valid d d.end (Also number id) e h refl (range (Also number id) refl) is
 draft_valid d (Ok (Stub number stub)) e h range is = unskipped_valid d d.end (Stub number stub) e h refl (range (Stub number stub) refl) is
 draft_valid d (Ok (Late number start)) e h range is = unskipped_valid d d.end (Late number start) e h refl (range (Late number start) refl) is
 draft_valid d (Ok (ToNode number to)) e h range is = unskipped_valid d d.end (ToNode number to) e h refl (range (ToNode number to) refl) is

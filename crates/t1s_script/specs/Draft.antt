@@ -2,9 +2,10 @@
 -- on it: that stands in Reading, and proofs/Drafts shows that both agree.
 use Rattle.std.specs.Prelude.{ℕ, ◌+◌, ◌≡◌, ⊤, List, [], ◌∷◌, ◌++◌, length, nat_le, nat_lt, replicate, get_or, slice_set, is_some, unwrap_or, Option, Some, None, Result, Ok, Err, if◌then◌else◌}
 use Rattle.std.specs.List.{list_any}
+use Rattle.t1s_base.specs.NodeIds.{has_id}
 use Rattle.t1s_base.specs.Limits.{most_nodes}
 use Rattle.t1s_script.specs.Settings.{default_of}
-use Rattle.t1s_script.specs.Limits.{most_acts, most_draws}
+use Rattle.t1s_script.specs.Limits.{most_acts, most_draws, most_ids}
 use Rattle.t1s_script.specs.ParsedLine.{ParsedLine}
 use Rattle.t1s_script.specs.Reading.{refused_at, draw_list, act_at}
 use Rattle.t1s_script.specs.Script.{offers_in}
@@ -26,7 +27,7 @@ use Rattle.t1s_script.specs.declared.script.Script.{Script}
 use Rattle.t1s_script.specs.declared.words.Setting.{Setting}
 use Rattle.t1s_script.specs.declared.words.Setting.TheVariants.{Count, To, Rise, Fall, Burst, Room}
 use Rattle.t1s_script.specs.declared.words.ScriptLine.{ScriptLine}
-use Rattle.t1s_script.specs.declared.words.ScriptLine.TheVariants.{Skipped, Set, Seed, Node, Stub, Late, ToNode, Draw, Offer, Noise, End}
+use Rattle.t1s_script.specs.declared.words.ScriptLine.TheVariants.{Skipped, Set, Seed, Node, Also, Stub, Late, ToNode, Draw, Offer, Noise, End}
 
 -- ---- the settings
 
@@ -79,11 +80,22 @@ seed_after d n = if is_some d.seed then Err Twice else Ok (record d { seed = Som
 
 -- the slot of a node of which nothing but its `node` line stood
 abbrev pub new_slot : ℕ → ℕ → Slot
-new_slot id place = record { id = id; place = place; stub = None; to = None; start = None; draws = [] }
+new_slot id place = record { ids = id ∷ []; place = place; stub = None; to = None; start = None; draws = [] }
 
 abbrev pub node_after : Draft → ℕ → ℕ → ℕ → Result Draft ScriptReason
 node_after d number id place =
     if is_some (slot_at d number) then Err Twice else Ok (with_slot d number (new_slot id place))
+
+-- a further ID of a node
+abbrev pub also_in_slot : Draft → ℕ → ℕ → Option Slot → Result Draft ScriptReason
+also_in_slot d number id (Some slot) =
+    if has_id slot.ids id then Err Twice
+    else if nat_le most_ids (length slot.ids) then Err TooMany
+    else Ok (with_slot d number (record slot { ids = slot.ids ++ id ∷ [] }))
+also_in_slot d number id None = Err UnknownNode
+
+abbrev pub also_after : Draft → ℕ → ℕ → Result Draft ScriptReason
+also_after d number id = also_in_slot d number id (slot_at d number)
 
 -- a line that may stand once for a node: what it gives is put into the slot, where nothing of it stands yet
 abbrev pub once_in_slot : Draft → ℕ → (Slot → Option ℕ) → (Slot → Slot) → Option Slot → Result Draft ScriptReason
@@ -138,6 +150,7 @@ line_after d Skipped = Ok d
 line_after d (Set w n) = set_after d w n
 line_after d (Seed n) = seed_after d n
 line_after d (Node number id place) = node_after d number id place
+line_after d (Also number id) = also_after d number id
 line_after d (Stub number stub) = stub_after d number stub
 line_after d (Late number start) = late_after d number start
 line_after d (ToNode number to) = timer_after d number to
@@ -174,7 +187,7 @@ fault_at number (Memory error) = NoMemory error
 -- the node of a slot: without a `stub` line it has no stub, without a `tonode` line the script's `to` is its timer, and
 -- without a `late` line it starts at tick 0
 abbrev pub node_of : ℕ → ℕ → Slot → NodeLine
-node_of to number slot = record { no = number; id = slot.id; place = slot.place; stub = unwrap_or slot.stub 0; to = unwrap_or slot.to to; start = unwrap_or slot.start 0; draws = draw_list slot.draws }
+node_of to number slot = record { no = number; ids = slot.ids; place = slot.place; stub = unwrap_or slot.stub 0; to = unwrap_or slot.to to; start = unwrap_or slot.start 0; draws = draw_list slot.draws }
 
 -- the nodes in ascending number, where the first of these slots is that of that number
 abbrev pub nodes_from : ℕ → ℕ → List (Option Slot) → List NodeLine

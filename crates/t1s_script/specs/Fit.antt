@@ -1,6 +1,7 @@
 -- Fit scripts: the premises on which the promises of the shared line stand, and the number that is written as
 -- the bound of a start.
-use Rattle.std.specs.Prelude.{ℕ, Bool, true, false, ◌+◌, ◌*◌, ◌≡◌, ◌≢◌, ◌<◌, ◌≤◌, ◌==◌, not, List, [], ◌∷◌, ◌++◌, find, slice_get, count_by, nat_lt, nat_le, Option, Some, None, Result, Ok, Err, All, if◌then◌else◌}
+use Rattle.std.specs.Prelude.{ℕ, Bool, true, false, ◌+◌, ◌*◌, ◌≡◌, ◌<◌, ◌≤◌, ◌==◌, not, List, [], ◌∷◌, ◌++◌, find, slice_get, count_by, nat_lt, nat_le, Option, Some, None, Result, Ok, Err, All, if◌then◌else◌}
+use Rattle.t1s_base.specs.NodeIds.{has_id}
 use Rattle.t1s_script.specs.declared.fitness.Unfit.{Unfit}
 use Rattle.t1s_script.specs.declared.script.Act.{Act}
 use Rattle.t1s_script.specs.declared.script.Deed.{Deed}
@@ -29,33 +30,51 @@ start_bound s = 1300 + (s.count + 3) * (longest_opportunity s + 20)
 abbrev pub unfit : ℕ → ℕ → ℕ → Option Unfit
 unfit premise left right = Some (record { premise = premise; left = left; right = right })
 
--- 1: exactly one node has the ID 0; else the number of nodes with the ID 0, and 1
+-- The IDs of a script are told by ascending node, and for a node in the order of its list.
+
+-- 1: exactly one node owns the ID 0; else the number of nodes that own it, and 1
 abbrev pub coordinators : List NodeLine → ℕ
-coordinators nodes = count_by (λ (n : NodeLine). n.id == 0) nodes
+coordinators nodes = count_by (λ (n : NodeLine). has_id n.ids 0) nodes
 
 abbrev pub without_one_coordinator : List NodeLine → Option Unfit
 without_one_coordinator nodes = if coordinators nodes == 1 then None else unfit 1 (coordinators nodes) 1
 
--- 2: the IDs are distinct; else the number of the first node whose ID stood before, and of the first node
--- with that ID
+-- 2: no ID is owned by two nodes; else the node of the first ID that an earlier node owns, and the first node that owns it
+abbrev pub else_node : Option NodeLine → Option NodeLine → Option NodeLine
+else_node (Some n) later = Some n
+else_node None later = later
+
+-- the first of these nodes that owns the ID
+abbrev pub owner_among : List NodeLine → ℕ → Option NodeLine
+owner_among nodes id = find (λ (n : NodeLine). has_id n.ids id) nodes
+
+-- the same for the first of these IDs that one of the nodes owns
+abbrev pub first_owner : List NodeLine → List ℕ → Option NodeLine
+first_owner nodes [] = None
+first_owner nodes (id ∷ ids) = else_node (owner_among nodes id) (first_owner nodes ids)
+
 abbrev pub repeat_or : NodeLine → Option NodeLine → Option Unfit → Option Unfit
 repeat_or n (Some earlier) later = unfit 2 n.no earlier.no
 repeat_or n None later = later
 
 abbrev pub with_repeat_after : List NodeLine → List NodeLine → Option Unfit
 with_repeat_after before [] = None
-with_repeat_after before (n ∷ ns) = repeat_or n (find (λ (m : NodeLine). m.id == n.id) before) (with_repeat_after (before ++ n ∷ []) ns)
+with_repeat_after before (n ∷ ns) = repeat_or n (first_owner before n.ids) (with_repeat_after (before ++ n ∷ []) ns)
 
 abbrev pub with_repeat : List NodeLine → Option Unfit
 with_repeat nodes = with_repeat_after [] nodes
 
--- 3: each ID is below the count; else the first other ID, and the count
-abbrev pub high_id : ℕ → Option NodeLine → Option Unfit
-high_id count (Some n) = unfit 3 n.id count
-high_id count None = None
+-- 3: each ID is below the count; else the first ID that isn't, and the count
+abbrev pub high_or : ℕ → Option ℕ → Option Unfit → Option Unfit
+high_or count (Some id) later = unfit 3 id count
+high_or count None later = later
+
+abbrev pub high_among : ℕ → List ℕ → Option ℕ
+high_among count ids = find (λ id. nat_le count id) ids
 
 abbrev pub with_high_id : ℕ → List NodeLine → Option Unfit
-with_high_id count nodes = high_id count (find (λ (n : NodeLine). nat_le count n.id) nodes)
+with_high_id count [] = None
+with_high_id count (n ∷ ns) = high_or count (high_among count n.ids) (with_high_id count ns)
 
 -- 4: each node's timer is that of the script; else the first other timer, and that of the script
 abbrev pub other_timer : ℕ → Option NodeLine → Option Unfit
@@ -109,8 +128,8 @@ fitness_of None = Ok tt
 -- all premises are met
 pub record IsFit (s : Script) : Type 0 where
   pub one_coordinator : coordinators s.nodes ≡ 1
-  pub distinct_ids : (i j : ℕ) (m n : NodeLine) → slice_get s.nodes i ≡ Some m → slice_get s.nodes j ≡ Some n → i < j → m.id ≢ n.id
-  pub low_ids : All (λ (n : NodeLine). n.id < s.count) s.nodes
+  pub distinct_ids : (i j : ℕ) (m n : NodeLine) → slice_get s.nodes i ≡ Some m → slice_get s.nodes j ≡ Some n → i < j → (id : ℕ) → has_id m.ids id ≡ true → has_id n.ids id ≡ false
+  pub low_ids : All (λ (n : NodeLine). All (λ id. id < s.count) n.ids) s.nodes
   pub one_timer : All (λ (n : NodeLine). n.to ≡ s.to) s.nodes
   pub no_noise : All (λ (a : Act). is_noise a.deed ≡ false) s.acts
   pub short_bursts : s.burst ≤ 15

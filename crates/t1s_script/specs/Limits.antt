@@ -13,6 +13,17 @@ most_draws = 64
 abbrev pub last_draw : ℕ
 last_draw = 1023
 
+-- the most IDs that a node has beside that of its `node` line, and the most in all
+abbrev pub most_further_ids : ℕ
+most_further_ids = 3
+
+abbrev pub most_ids : ℕ
+most_ids = 4
+
+-- the greatest ID of those
+abbrev pub last_further_id : ℕ
+last_further_id = 254
+
 -- the longest stub, in whole bit times
 abbrev pub longest_stub : ℕ
 longest_stub = 31

@@ -1,12 +1,11 @@
 -- What one line of a script says, by itself: its word, and its numbers in their ranges.
 use Rattle.std.specs.Prelude.{ℕ, ◌==◌, ◌&&◌, Bool, false, List, [], ◌∷◌, nat_le, nat_lt, codes, Option, Some, None, Result, Ok, Err, if◌then◌else◌}
 use Rattle.std.specs.Str.{bytes_eq}
-use Rattle.t1s_base.specs.Limits.{last_node, most_ticks}
 use Rattle.t1s_base.specs.Numbers.{number_of}
 use Rattle.t1s_script.specs.Lines.{fields_of}
 use Rattle.t1s_script.specs.Settings.{setting_range}
-use Rattle.t1s_script.specs.Limits.{last_draw, longest_stub}
-use Rattle.t1s_script.specs.Versions.{has_word}
+use Rattle.t1s_script.specs.Limits.{last_draw, last_further_id, longest_stub}
+use Rattle.t1s_script.specs.Versions.{has_word, last_node_of, most_ticks_of}
 use Rattle.t1s_script.specs.FrameTexts.{hex_frame, fill_frame}
 use Rattle.t1s_script.specs.declared.refusals.ScriptReason.{ScriptReason}
 use Rattle.t1s_script.specs.declared.refusals.ScriptReason.TheVariants.{UnknownWord, Form, Number, OutOfRange}
@@ -14,9 +13,9 @@ use Rattle.t1s_script.specs.declared.versions.Version.{Version}
 use Rattle.t1s_script.specs.declared.words.Range.{Range}
 use Rattle.t1s_script.specs.declared.words.Setting.TheVariants.{Count, To, Rise, Fall, Burst, Room}
 use Rattle.t1s_script.specs.declared.words.Word.{Word}
-use Rattle.t1s_script.specs.declared.words.Word.TheVariants.{Set as SetWord, Seed as SeedWord, Node as NodeWord, Stub as StubWord, Late as LateWord, ToNode as ToNodeWord, Draw as DrawWord, Offer as OfferWord, Fill as FillWord, Noise as NoiseWord, End as EndWord}
+use Rattle.t1s_script.specs.declared.words.Word.TheVariants.{Set as SetWord, Seed as SeedWord, Node as NodeWord, Also as AlsoWord, Stub as StubWord, Late as LateWord, ToNode as ToNodeWord, Draw as DrawWord, Offer as OfferWord, Fill as FillWord, Noise as NoiseWord, End as EndWord}
 use Rattle.t1s_script.specs.declared.words.ScriptLine.{ScriptLine}
-use Rattle.t1s_script.specs.declared.words.ScriptLine.TheVariants.{Skipped, Set, Seed, Node, Stub, Late, ToNode, Draw, Offer, Noise, End}
+use Rattle.t1s_script.specs.declared.words.ScriptLine.TheVariants.{Skipped, Set, Seed, Node, Also, Stub, Late, ToNode, Draw, Offer, Noise, End}
 
 -- what a line says, or the first reason of the table for which it is refused by itself
 abbrev pub ParsedLine : Type 0
@@ -33,6 +32,7 @@ word_of field =
     else if bytes_eq field (codes "room") then Some (SetWord Room)
     else if bytes_eq field (codes "seed") then Some SeedWord
     else if bytes_eq field (codes "node") then Some NodeWord
+    else if bytes_eq field (codes "also") then Some AlsoWord
     else if bytes_eq field (codes "stub") then Some StubWord
     else if bytes_eq field (codes "late") then Some LateWord
     else if bytes_eq field (codes "tonode") then Some ToNodeWord
@@ -103,9 +103,9 @@ offers (Ok target) frame = says (λ octets. Offer target.0 target.1 octets) fram
 offers (Err reason) frame = Err reason
 
 -- the tick, the node and the octets
-abbrev pub offer_in : List (List ℕ) → ParsedLine
-offer_in (tick ∷ number ∷ octets ∷ []) = offers (two_within (up_to most_ticks) (up_to last_node) (number_of tick) (number_of number)) (hex_frame octets)
-offer_in _ = Err Form
+abbrev pub offer_in : Version → List (List ℕ) → ParsedLine
+offer_in version (tick ∷ number ∷ octets ∷ []) = offers (two_within (up_to (most_ticks_of version)) (up_to (last_node_of version)) (number_of tick) (number_of number)) (hex_frame octets)
+offer_in version _ = Err Form
 
 -- The tick, the node, how many octets and the octet. How many has no range of its own but that of all numbers: other
 -- sizes than those of a frame are `FrameSize`.
@@ -113,39 +113,40 @@ abbrev pub fills : Result (ℕ × ℕ × ℕ) ScriptReason → List ℕ → Pars
 fills (Ok numbers) octet = offers (Ok (numbers.0, numbers.1)) (fill_frame numbers.2 octet)
 fills (Err reason) octet = Err reason
 
-abbrev pub fill_in : List (List ℕ) → ParsedLine
-fill_in (tick ∷ number ∷ count ∷ octet ∷ []) =
-    fills (three_within (up_to most_ticks) (up_to last_node) (up_to 9999999999) (number_of tick) (number_of number) (number_of count)) octet
-fill_in _ = Err Form
+abbrev pub fill_in : Version → List (List ℕ) → ParsedLine
+fill_in version (tick ∷ number ∷ count ∷ octet ∷ []) =
+    fills (three_within (up_to (most_ticks_of version)) (up_to (last_node_of version)) (up_to 9999999999) (number_of tick) (number_of number) (number_of count)) octet
+fill_in version _ = Err Form
 
 -- the tick at which a noise begins and the tick at which it has ended, which is above it
 abbrev pub lasts : Result (ℕ × ℕ) ScriptReason → ParsedLine
 lasts (Ok ticks) = if nat_lt ticks.0 ticks.1 then Ok (Noise ticks.0 ticks.1) else Err OutOfRange
 lasts (Err reason) = Err reason
 
-abbrev pub noise_in : List (List ℕ) → ParsedLine
-noise_in fields = lasts (two_numbers (up_to most_ticks) (up_to most_ticks) fields)
+abbrev pub noise_in : Version → List (List ℕ) → ParsedLine
+noise_in version fields = lasts (two_numbers (up_to (most_ticks_of version)) (up_to (most_ticks_of version)) fields)
 
--- what the fields after the word say, a row for each word
-abbrev pub line_by_word : Option Word → List (List ℕ) → ParsedLine
-line_by_word (Some (SetWord w)) fields = says (λ n. Set w n) (one_number (setting_range w) fields)
-line_by_word (Some SeedWord) fields = says (λ n. Seed n) (one_number (up_to 4294967295) fields)
-line_by_word (Some NodeWord) fields = says (λ n. Node n.0 n.1 n.2) (three_numbers (up_to last_node) (up_to 255) (up_to 255) fields)
-line_by_word (Some StubWord) fields = says (λ n. Stub n.0 n.1) (two_numbers (up_to last_node) (up_to longest_stub) fields)
-line_by_word (Some LateWord) fields = says (λ n. Late n.0 n.1) (two_numbers (up_to last_node) (up_to most_ticks) fields)
-line_by_word (Some ToNodeWord) fields = says (λ n. ToNode n.0 n.1) (two_numbers (up_to last_node) (setting_range To) fields)
-line_by_word (Some DrawWord) fields = says (λ n. Draw n.0 n.1) (two_numbers (up_to last_node) (up_to last_draw) fields)
-line_by_word (Some OfferWord) fields = offer_in fields
-line_by_word (Some FillWord) fields = fill_in fields
-line_by_word (Some NoiseWord) fields = noise_in fields
-line_by_word (Some EndWord) fields = says (λ n. End n) (one_number (record { least = 1; greatest = most_ticks }) fields)
-line_by_word None fields = Err UnknownWord
+-- what the fields after the word say, a row for each word; how many nodes and ticks there are is the version's
+abbrev pub line_by_word : Version → Option Word → List (List ℕ) → ParsedLine
+line_by_word version (Some (SetWord w)) fields = says (λ n. Set w n) (one_number (setting_range w) fields)
+line_by_word version (Some SeedWord) fields = says (λ n. Seed n) (one_number (up_to 4294967295) fields)
+line_by_word version (Some NodeWord) fields = says (λ n. Node n.0 n.1 n.2) (three_numbers (up_to (last_node_of version)) (up_to 255) (up_to 255) fields)
+line_by_word version (Some AlsoWord) fields = says (λ n. Also n.0 n.1) (two_numbers (up_to (last_node_of version)) (up_to last_further_id) fields)
+line_by_word version (Some StubWord) fields = says (λ n. Stub n.0 n.1) (two_numbers (up_to (last_node_of version)) (up_to longest_stub) fields)
+line_by_word version (Some LateWord) fields = says (λ n. Late n.0 n.1) (two_numbers (up_to (last_node_of version)) (up_to (most_ticks_of version)) fields)
+line_by_word version (Some ToNodeWord) fields = says (λ n. ToNode n.0 n.1) (two_numbers (up_to (last_node_of version)) (setting_range To) fields)
+line_by_word version (Some DrawWord) fields = says (λ n. Draw n.0 n.1) (two_numbers (up_to (last_node_of version)) (up_to last_draw) fields)
+line_by_word version (Some OfferWord) fields = offer_in version fields
+line_by_word version (Some FillWord) fields = fill_in version fields
+line_by_word version (Some NoiseWord) fields = noise_in version fields
+line_by_word version (Some EndWord) fields = says (λ n. End n) (one_number (record { least = 1; greatest = most_ticks_of version }) fields)
+line_by_word version None fields = Err UnknownWord
 
 -- ---- whole lines
 
 abbrev pub line_in : Version → List (List ℕ) → ParsedLine
 line_in version [] = Err UnknownWord
-line_in version (first ∷ fields) = line_by_word (word_in version first) fields
+line_in version (first ∷ fields) = line_by_word version (word_in version first) fields
 
 -- a line that begins with `#` is skipped
 abbrev pub is_skipped : List ℕ → Bool

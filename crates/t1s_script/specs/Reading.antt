@@ -6,7 +6,7 @@ use Rattle.t1s_base.specs.Limits.{most_nodes}
 use Rattle.t1s_script.specs.Lines.{lines_of}
 use Rattle.t1s_script.specs.ParsedLine.{ParsedLine, parsed_line}
 use Rattle.t1s_script.specs.Versions.{version_of}
-use Rattle.t1s_script.specs.Values.{seed_from, node_for, stub_for, start_for, timer_for, draw_for, offer_from, end_from, first_given, setting_of}
+use Rattle.t1s_script.specs.Values.{seed_from, node_for, also_for, stub_for, start_for, timer_for, draw_for, offer_from, end_from, first_given, setting_of}
 use Rattle.t1s_script.specs.Rules.{reason_of}
 use Rattle.t1s_script.specs.Script.{IsScript}
 use Rattle.t1s_script.specs.declared.refusals.ScriptReason.{ScriptReason}
@@ -30,12 +30,13 @@ abbrev pub draw_list : List ℕ → Option (List ℕ)
 draw_list [] = None
 draw_list (draw ∷ draws) = Some (draw ∷ draws)
 
--- the node of that number, as its `node` line names it: without a `stub` line it has no stub, without a `tonode` line
--- its timer is that of the script, and without a `late` line it starts at tick 0
+-- the node of that number, as its `node` line names it: its IDs are that of this line and those of its `also` lines, in
+-- their order; without a `stub` line it has no stub, without a `tonode` line its timer is that of the script, and without
+-- a `late` line it starts at tick 0
 abbrev pub node_of_line : List ParsedLine → ℕ → ℕ × ℕ → NodeLine
 node_of_line lines number line = record {
   no = number;
-  id = line.0;
+  ids = line.0 ∷ filter_map (also_for number) lines;
   place = line.1;
   stub = first_given (stub_for number) lines 0;
   to = first_given (timer_for number) lines (setting_of To lines);

@@ -3,12 +3,12 @@
 use Rattle.std.specs.Prelude.{ℕ, Bool, false, not, List, length, filter_map, nat_le, nat_lt, is_some, Option, Some, None, Ok, Err, if◌then◌else◌}
 use Rattle.std.specs.List.{list_any}
 use Rattle.t1s_script.specs.ParsedLine.{ParsedLine}
-use Rattle.t1s_script.specs.Limits.{most_acts, most_draws}
-use Rattle.t1s_script.specs.Values.{number_for, seed_from, node_for, stub_for, start_for, timer_for, draw_for, tick_from, latest_tick, end_from, is_node, some_gives}
+use Rattle.t1s_script.specs.Limits.{most_acts, most_draws, most_further_ids}
+use Rattle.t1s_script.specs.Values.{number_for, seed_from, node_for, also_for, gives_id, stub_for, start_for, timer_for, draw_for, tick_from, latest_tick, end_from, is_node, some_gives}
 use Rattle.t1s_script.specs.declared.refusals.ScriptReason.{ScriptReason}
 use Rattle.t1s_script.specs.declared.refusals.ScriptReason.TheVariants.{AfterEnd, Twice, UnknownNode, Order, TooMany, NoNode}
 use Rattle.t1s_script.specs.declared.words.ScriptLine.{ScriptLine}
-use Rattle.t1s_script.specs.declared.words.ScriptLine.TheVariants.{Skipped, Set, Seed, Node, Stub, Late, ToNode, Draw, Offer, Noise, End}
+use Rattle.t1s_script.specs.declared.words.ScriptLine.TheVariants.{Skipped, Set, Seed, Node, Also, Stub, Late, ToNode, Draw, Offer, Noise, End}
 
 -- ---- the table: how often a line may stand, and what stands above it
 
@@ -47,6 +47,7 @@ row_of Skipped = row None None Nothing Anywhere
 row_of (Set w n) = row (once (number_for w)) None Nothing Anywhere
 row_of (Seed n) = row (once seed_from) None Nothing Anywhere
 row_of (Node number id place) = row (once (node_for number)) None Nothing Anywhere
+row_of (Also number id) = row (Some (gives_id number id)) (at_most most_further_ids (also_for number)) (NodeOf number) Anywhere
 row_of (Stub number stub) = row (once (stub_for number)) None (NodeOf number) Anywhere
 row_of (Late number start) = row (once (start_for number)) None (NodeOf number) Anywhere
 row_of (ToNode number to) = row (once (timer_for number)) None (NodeOf number) Anywhere
@@ -62,7 +63,7 @@ abbrev pub stands_after_end : List ParsedLine → ParsedLine → Bool
 stands_after_end earlier (Ok Skipped) = false
 stands_after_end earlier line = some_gives end_from earlier
 
--- `Twice`: a line that may stand once stands again
+-- `Twice`: a line that may stand once stands again, or an `also` line repeats an ID of the same node
 abbrev pub stands_again : List ParsedLine → Option (ParsedLine → Bool) → Bool
 stands_again earlier (Some test) = list_any test earlier
 stands_again earlier None = false

@@ -1,6 +1,7 @@
 -- Valid scripts.
 use Rattle.std.specs.Prelude.{ℕ, ◌<◌, ◌≤◌, ⊤, List, length, map, filter_map, Option, Some, None, All, Contains}
 use Rattle.std.specs.List.Sorted.{IsNonDecreasing, IsStrictlyIncreasing}
+use Rattle.t1s_base.specs.NodeIds.{IsIds}
 use Rattle.t1s_base.specs.Limits.{most_nodes, last_node, most_ticks}
 use Rattle.t1s_frame.specs.Frame.{IsFrame}
 use Rattle.t1s_script.specs.Limits.{most_acts, most_draws, last_draw, longest_stub}
@@ -18,7 +19,7 @@ AreDraws None = ⊤
 -- the numbers of a node are in their ranges
 pub record IsNodeLine (n : NodeLine) : Type 0 where
   pub no_high : n.no ≤ last_node
-  pub id_high : n.id ≤ 255
+  pub ids : IsIds n.ids
   pub place_high : n.place ≤ 255
   pub stub_high : n.stub ≤ longest_stub
   pub to_low : 16 ≤ n.to

@@ -35,8 +35,9 @@ have_thin_form (first ∷ lines) = bytes_eq first (codes "t1s 1") && are_thin (m
 abbrev pub has_thin_form : List ℕ → Bool
 has_thin_form octets = nat_le (length octets) 1048576 && have_thin_form (lines_of octets)
 
--- a node without a stub, with the default timer, that starts at once and has no list of draws
+-- a node with one ID and without a stub, with the default timer, that starts at once and has no list of draws
 pub record IsThinNode (n : NodeLine) : Type 0 where
+  pub one_id : length n.ids ≡ 1
   pub stub : n.stub ≡ 0
   pub to : n.to ≡ 32
   pub start : n.start ≡ 0

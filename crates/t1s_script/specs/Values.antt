@@ -1,11 +1,12 @@
 -- What the lines of a script give: the numbers of each word.
-use Rattle.std.specs.Prelude.{ℕ, max, [], ◌∷◌, ◌==◌, Bool, true, false, List, filter_map, slice_index_or, is_some, Option, Some, None, Ok, if◌then◌else◌}
+use Rattle.std.specs.Prelude.{ℕ, max, [], ◌∷◌, ◌==◌, ◌||◌, Bool, true, false, List, filter_map, slice_index_or, is_some, Option, Some, None, Ok, if◌then◌else◌}
 use Rattle.std.specs.List.{list_any}
+use Rattle.std.specs.Option.{option_map_or}
 use Rattle.t1s_script.specs.Settings.{default_of}
 use Rattle.t1s_script.specs.ParsedLine.{ParsedLine}
 use Rattle.t1s_script.specs.declared.words.Setting.{Setting}
 use Rattle.t1s_script.specs.declared.words.Setting.TheVariants.{Count, To, Rise, Fall, Burst, Room}
-use Rattle.t1s_script.specs.declared.words.ScriptLine.TheVariants.{Set, Seed, Node, Stub, Late, ToNode, Draw, Offer, Noise, End}
+use Rattle.t1s_script.specs.declared.words.ScriptLine.TheVariants.{Set, Seed, Node, Also, Stub, Late, ToNode, Draw, Offer, Noise, End}
 
 -- ---- one line
 
@@ -32,6 +33,15 @@ seed_from _ = None
 abbrev pub node_for : ℕ → ParsedLine → Option (ℕ × ℕ)
 node_for number (Ok (Node other id place)) = if other == number then Some (id, place) else None
 node_for number _ = None
+
+-- the ID of an `also` line of that number
+abbrev pub also_for : ℕ → ParsedLine → Option ℕ
+also_for number (Ok (Also other id)) = if other == number then Some id else None
+also_for number _ = None
+
+-- the line gives that ID to the node of that number
+abbrev pub gives_id : ℕ → ℕ → ParsedLine → Bool
+gives_id number id line = option_map_or (λ n. n.0 == id) (node_for number line) false || option_map_or (λ further. further == id) (also_for number line) false
 
 -- the length of a `stub` line of that number
 abbrev pub stub_for : ℕ → ParsedLine → Option ℕ

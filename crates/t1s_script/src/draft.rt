@@ -3,7 +3,7 @@ ghost use Rattle.std.specs.Prelude.{◌≡◌, ◌≤◌, Ok, Err, IfOk, MatchRe
 ghost use Rattle.std.specs.List.{list_any};
 ghost use Rattle.std.specs.Result.{ForOk};
 ghost use Rattle.t1s_base.specs.Limits.{last_node};
-ghost use Rattle.t1s_script.specs.Draft.{IsTaken, draft_after, draft_start, draw_after, end_after, given, late_after, line_after, no_settings, node_after, node_of, nodes_from, offer_after, script_with, seed_after, set_after, slot_at, stub_after, timed_after, timer_after, value_in, with_given, with_slot};
+ghost use Rattle.t1s_script.specs.Draft.{IsTaken, also_after, draft_after, draft_start, draw_after, end_after, given, late_after, line_after, no_settings, node_after, node_of, nodes_from, offer_after, script_with, seed_after, set_after, slot_at, stub_after, timed_after, timer_after, value_in, with_given, with_slot};
 ghost use Rattle.t1s_script.specs.Ranges.{HasSlot};
 
 use crate::kept_acts::KeptActs;
@@ -12,7 +12,7 @@ use crate::script::{Act, Deed, DrawList, NodeLine, NodeList, Script};
 use crate::words::{ScriptLine, Setting};
 use std::alloc::{AllocError, Global};
 use std::array;
-use t1s_base::MOST_NODES;
+use t1s_base::{Ids, MOST_NODES};
 use t1s_frame::Frame;
 
 /// A slot for each node that a segment may have.
@@ -92,7 +92,7 @@ impl Settings {
 /// What stood for the node of one number.
 #[derive(Drop)]
 pub struct Slot {
-    pub id: u8,
+    pub ids: Ids,
     pub place: u8,
     /// The length of its `stub` line.
     pub stub: Option<u8>,
@@ -112,7 +112,7 @@ impl Slot {
         let is_listed = !self.draws.as_slice().is_empty();
         NodeLine {
             no,
-            id: self.id,
+            ids: self.ids.copy(),
             place: self.place,
             stub: self.stub.unwrap_or(0),
             to: self.to.unwrap_or(to),
@@ -198,7 +198,7 @@ impl Draft {
             return Err(ScriptReason::Twice);
         }
         self.slots[usize::from(no)] = Some(Slot {
-            id,
+            ids: Ids::one(id),
             place,
             stub: None,
             to: None,
@@ -206,6 +206,18 @@ impl Draft {
             draws: DrawList::none(alloc),
         });
         Ok(())
+    }
+
+    /// An `also` line.
+    fn take_also(&mut self, no: u8, id: u8) -> Result<(), ScriptReason>
+        requires { no ≤ last_node }
+        ensures { MatchResult result (λ _. also_after self.old no id ≡ Ok self.new) (λ reason. also_after self.old no id ≡ Err reason) }
+    {
+        match &mut self.slots[usize::from(no)] {
+            None => Err(ScriptReason::UnknownNode),
+            Some(slot) if slot.ids.has(id) => Err(ScriptReason::Twice),
+            Some(slot) => slot.ids.add(id).map_err(|_| ScriptReason::TooMany),
+        }
     }
 
     /// A `stub` line.
@@ -322,6 +334,7 @@ impl Draft {
             ScriptLine::Set(setting, number) => Ok(self.take_setting(setting, number)?),
             ScriptLine::Seed(seed) => Ok(self.take_seed(seed)?),
             ScriptLine::Node { no, id, place } => Ok(self.take_node(alloc, no, id, place)?),
+            ScriptLine::Also { no, id } => Ok(self.take_also(no, id)?),
             ScriptLine::Stub { no, stub } => Ok(self.take_stub(no, stub)?),
             ScriptLine::Late { no, start } => Ok(self.take_late(no, start)?),
             ScriptLine::ToNode { no, to } => Ok(self.take_timer(no, to)?),

@@ -1,13 +1,14 @@
 //! Which scripts are fit, how wide a segment is, and the number that is written as the bound of a start.
-ghost use Rattle.std.specs.Prelude.{◌≡◌, ◌≤◌, ◌↔◌, ◌==◌, Err, IsOk, find, map, nat_le, not, option_map};
+ghost use Rattle.std.specs.Prelude.{◌≡◌, ◌≤◌, ◌↔◌, ◌==◌, Err, IsOk, find, map, not, option_map};
 ghost use Rattle.t1s_script.specs.declared.script.NodeLine.{NodeLine};
 ghost use Rattle.t1s_harness.specs.Distances.{farthest, span};
 ghost use Rattle.t1s_script.specs.Limits.{most_span};
 ghost use Rattle.t1s_script.specs.Script.{IsScript};
 ghost use Rattle.t1s_script.specs.Taps.{span_of, tap_of};
-ghost use Rattle.t1s_script.specs.Fit.{IsFit, fitness_of, longest_opportunity, start_bound, unmet, with_high_id, with_long_bursts, with_long_cable, with_noise, with_other_timer, with_repeat, without_one_coordinator};
+ghost use Rattle.t1s_script.specs.Fit.{IsFit, first_owner, fitness_of, high_among, longest_opportunity, owner_among, start_bound, unmet, with_high_id, with_long_bursts, with_long_cable, with_noise, with_other_timer, with_repeat, without_one_coordinator};
 
 use crate::script::{Act, Deed, NodeLine, Script};
+use t1s_base::Ids;
 use t1s_harness::{Tap, between};
 
 /// What the bound counts for a frame of a drive, in ticks.
@@ -28,15 +29,15 @@ const FIT_BURST: u8 = 15;
 /// A premise that a script doesn't meet, with two values that show it.
 #[derive(Clone, Copy, PartialEq, Eq, Debug)]
 pub struct Unfit {
-    /// 1: exactly one node has the ID 0. 2: the IDs are distinct. 3: each ID is below the count. 4: each
+    /// 1: exactly one node owns the ID 0. 2: no ID is owned by two nodes. 3: each ID is below the count. 4: each
     /// node has the timer of the script. 5: there is no noise. 6: at most 15 further frames in an opportunity. 7: twice the
     /// span and `rise` together are below `to`.
     pub premise: u8,
-    /// What is there: 1 the number of nodes with the ID 0, 2 the number of the first node whose ID stood
-    /// before, 3 the first such ID, 4 the first such timer, 5 the tick at which the first noise begins,
+    /// What is there, where IDs are told by ascending node and in the order of a node's list: 1 the number of
+    /// nodes that own the ID 0, 2 the node of the first ID that an earlier node owns, 3 the first such ID, 4 the first such timer, 5 the tick at which the first noise begins,
     /// 6 `burst`, 7 the sum.
     pub left: u64,
-    /// What it is held against: 1 the number 1, 2 the number of the first node with that ID, 3 the count,
+    /// What it is held against: 1 the number 1, 2 the first node that owns that ID, 3 the count,
     /// 4 `to`, 5 the end of that noise, 6 the number 15, 7 `to`.
     pub right: u64,
 }
@@ -110,11 +111,11 @@ fn unmet_premise(premise: u8, left: u64, right: u64) -> Result<(), Unfit>
     })
 }
 
-/// Premise 1: exactly one node has the ID 0.
+/// Premise 1: exactly one node owns the ID 0.
 fn one_coordinator(nodes: &[NodeLine]) -> Result<(), Unfit>
     ensures { result ≡ fitness_of (without_one_coordinator nodes.now) }
 {
-    let count = nodes.iter().filter(|node| node.id == 0).count() as u64;
+    let count = nodes.iter().filter(|node| node.ids.has(0)).count() as u64;
     if count == 1 {
         Ok(())
     } else {
@@ -122,44 +123,68 @@ fn one_coordinator(nodes: &[NodeLine]) -> Result<(), Unfit>
     }
 }
 
-/// The number of the first of the nodes with that ID.
-fn number_with_id(nodes: &[NodeLine], id: u8) -> Option<u8>
-    ensures { result ≡ option_map (λ (n : NodeLine). n.no) (find (λ (n : NodeLine). n.id == id) nodes.now) }
+/// The number of the first of the nodes that owns the ID.
+fn owner_among(nodes: &[NodeLine], id: u8) -> Option<u8>
+    ensures { result ≡ option_map (λ (n : NodeLine). n.no) (owner_among nodes.now id) }
 {
-    nodes.iter().find(|node| node.id == id).map(|node| node.no)
+    nodes
+        .iter()
+        .find(|node| node.ids.has(id))
+        .map(|node| node.no)
 }
 
-/// Premise 2: the IDs are distinct.
+/// The number of the first of the nodes that owns the first of these IDs which one of them owns.
+fn first_owner(nodes: &[NodeLine], ids: &Ids) -> Option<u8>
+    ensures { result ≡ option_map (λ (n : NodeLine). n.no) (first_owner nodes.now ids.now) }
+{
+    let mut place = 0;
+    while let Some(id) = ids.get(place) {
+        let owner = owner_among(nodes, id);
+        if owner.is_some() {
+            return owner;
+        }
+        place += 1;
+    }
+    None
+}
+
+/// Premise 2: no ID is owned by two nodes.
 fn distinct_ids(nodes: &[NodeLine]) -> Result<(), Unfit>
     ensures { result ≡ fitness_of (with_repeat nodes.now) }
 {
     for i in 0..nodes.len() {
         let node = &nodes[i];
-        if let Some(earlier) = number_with_id(&nodes[..i], node.id) {
+        if let Some(earlier) = first_owner(&nodes[..i], &node.ids) {
             return unmet_premise(2, wide(node.no), wide(earlier));
         }
     }
     Ok(())
 }
 
-/// The first ID of the nodes that isn't below the count.
-fn high_id(nodes: &[NodeLine], count: u8) -> Option<u8>
-    ensures { result ≡ option_map (λ (n : NodeLine). n.id) (find (λ (n : NodeLine). nat_le count n.id) nodes.now) }
+/// The first of the IDs that isn't below the count.
+fn high_among(ids: &Ids, count: u8) -> Option<u8>
+    ensures { result ≡ high_among count ids.now }
 {
-    nodes
-        .iter()
-        .find(|node| count <= node.id)
-        .map(|node| node.id)
+    let mut place = 0;
+    while let Some(id) = ids.get(place) {
+        if count <= id {
+            return Some(id);
+        }
+        place += 1;
+    }
+    None
 }
 
 /// Premise 3: each ID is below the count.
 fn low_ids(nodes: &[NodeLine], count: u8) -> Result<(), Unfit>
     ensures { result ≡ fitness_of (with_high_id count nodes.now) }
 {
-    match high_id(nodes, count) {
-        Some(id) => unmet_premise(3, wide(id), wide(count)),
-        None => Ok(()),
+    for node in nodes {
+        if let Some(id) = high_among(&node.ids, count) {
+            return unmet_premise(3, wide(id), wide(count));
+        }
     }
+    Ok(())
 }
 
 /// The first other timer of the nodes.

@@ -29,6 +29,8 @@ pub use script::{Act, ActList, Deed, DrawList, NodeLine, NodeList, Script};
 #[cfg(test)]
 mod frame_tests;
 #[cfg(test)]
+mod ids_tests;
+#[cfg(test)]
 mod stub_tests;
 #[cfg(test)]
 mod tests;

@@ -9,15 +9,9 @@ use crate::refusals::ScriptReason;
 use crate::text::Fields;
 use crate::versions::Version;
 use crate::words::{Range, ScriptLine, Setting, Word, word_in};
-use t1s_base::{LAST_NODE, MOST_TICKS, read_number};
+use t1s_base::read_number;
 
 const COMMENT: u8 = b'#';
-
-/// The numbers of nodes.
-const NODES: Range = Range {
-    least: 0,
-    greatest: LAST_NODE as u64,
-};
 
 /// IDs, and places.
 const OCTETS: Range = Range {
@@ -25,15 +19,16 @@ const OCTETS: Range = Range {
     greatest: 255,
 };
 
+/// IDs beside that of a `node` line.
+const FURTHER_IDS: Range = Range {
+    least: 0,
+    greatest: 254,
+};
+
 /// Lengths of stubs.
 const STUBS: Range = Range {
     least: 0,
     greatest: 31,
-};
-
-const TICKS: Range = Range {
-    least: 0,
-    greatest: MOST_TICKS,
 };
 
 const DRAWS: Range = Range {
@@ -44,11 +39,6 @@ const DRAWS: Range = Range {
 const SEEDS: Range = Range {
     least: 0,
     greatest: 4_294_967_295,
-};
-
-const ENDS: Range = Range {
-    least: 1,
-    greatest: MOST_TICKS,
 };
 
 /// All numbers that are read.
@@ -148,8 +138,8 @@ fn three_numbers(
 }
 
 /// What the fields after `offer` say.
-fn read_offer(mut fields: Fields<'_>) -> Result<ScriptLine, ScriptReason>
-    ensures value { result ≡ offer_in fields.entry }
+fn read_offer(version: Version, mut fields: Fields<'_>) -> Result<ScriptLine, ScriptReason>
+    ensures value { result ≡ offer_in version fields.entry }
     ensures slot { IfOk result HasSlot }
 {
     let tick = fields.next().ok_or(ScriptReason::Form)?;
@@ -158,7 +148,11 @@ fn read_offer(mut fields: Fields<'_>) -> Result<ScriptLine, ScriptReason>
     if fields.next().is_some() {
         return Err(ScriptReason::Form);
     }
-    let (tick, no) = two_within((TICKS, NODES), read_number(tick), read_number(no))?;
+    let (tick, no) = two_within(
+        (version.ticks(), version.nodes()),
+        read_number(tick),
+        read_number(no),
+    )?;
     Ok(ScriptLine::Offer {
         tick,
         no: no as u8,
@@ -167,8 +161,8 @@ fn read_offer(mut fields: Fields<'_>) -> Result<ScriptLine, ScriptReason>
 }
 
 /// What the fields after `fill` say.
-fn read_fill(mut fields: Fields<'_>) -> Result<ScriptLine, ScriptReason>
-    ensures value { result ≡ fill_in fields.entry }
+fn read_fill(version: Version, mut fields: Fields<'_>) -> Result<ScriptLine, ScriptReason>
+    ensures value { result ≡ fill_in version fields.entry }
     ensures slot { IfOk result HasSlot }
 {
     let tick = fields.next().ok_or(ScriptReason::Form)?;
@@ -179,7 +173,7 @@ fn read_fill(mut fields: Fields<'_>) -> Result<ScriptLine, ScriptReason>
         return Err(ScriptReason::Form);
     }
     let (tick, no, count) = three_within(
-        (TICKS, NODES, NUMBERS),
+        (version.ticks(), version.nodes(), NUMBERS),
         read_number(tick),
         read_number(no),
         read_number(count),
@@ -192,11 +186,11 @@ fn read_fill(mut fields: Fields<'_>) -> Result<ScriptLine, ScriptReason>
 }
 
 /// What the fields after `noise` say: it ends above the tick at which it begins.
-fn read_noise(fields: Fields<'_>) -> Result<ScriptLine, ScriptReason>
-    ensures value { result ≡ noise_in fields.entry }
+fn read_noise(version: Version, fields: Fields<'_>) -> Result<ScriptLine, ScriptReason>
+    ensures value { result ≡ noise_in version fields.entry }
     ensures slot { IfOk result HasSlot }
 {
-    let (tick, until) = two_numbers((TICKS, TICKS), fields)?;
+    let (tick, until) = two_numbers((version.ticks(), version.ticks()), fields)?;
     if tick < until {
         Ok(ScriptLine::Noise { tick, until })
     } else {
@@ -205,53 +199,64 @@ fn read_noise(fields: Fields<'_>) -> Result<ScriptLine, ScriptReason>
 }
 
 /// What the fields after the word say, a row for each word.
-fn read_fields(word: Option<Word>, fields: Fields<'_>) -> Result<ScriptLine, ScriptReason>
-    ensures value { result ≡ line_by_word word fields.entry }
+fn read_fields(
+    version: Version,
+    word: Option<Word>,
+    fields: Fields<'_>,
+) -> Result<ScriptLine, ScriptReason>
+    ensures value { result ≡ line_by_word version word fields.entry }
     ensures slot { IfOk result HasSlot }
 {
     Ok(match word.ok_or(ScriptReason::UnknownWord)? {
         Word::Set(setting) => ScriptLine::Set(setting, one_number(setting.range(), fields)? as u8),
         Word::Seed => ScriptLine::Seed(one_number(SEEDS, fields)?),
         Word::Node => {
-            let (no, id, place) = three_numbers((NODES, OCTETS, OCTETS), fields)?;
+            let (no, id, place) = three_numbers((version.nodes(), OCTETS, OCTETS), fields)?;
             ScriptLine::Node {
                 no: no as u8,
                 id: id as u8,
                 place: place as u8,
             }
         }
+        Word::Also => {
+            let (no, id) = two_numbers((version.nodes(), FURTHER_IDS), fields)?;
+            ScriptLine::Also {
+                no: no as u8,
+                id: id as u8,
+            }
+        }
         Word::Stub => {
-            let (no, stub) = two_numbers((NODES, STUBS), fields)?;
+            let (no, stub) = two_numbers((version.nodes(), STUBS), fields)?;
             ScriptLine::Stub {
                 no: no as u8,
                 stub: stub as u8,
             }
         }
         Word::Late => {
-            let (no, start) = two_numbers((NODES, TICKS), fields)?;
+            let (no, start) = two_numbers((version.nodes(), version.ticks()), fields)?;
             ScriptLine::Late {
                 no: no as u8,
                 start,
             }
         }
         Word::ToNode => {
-            let (no, to) = two_numbers((NODES, Setting::To.range()), fields)?;
+            let (no, to) = two_numbers((version.nodes(), Setting::To.range()), fields)?;
             ScriptLine::ToNode {
                 no: no as u8,
                 to: to as u8,
             }
         }
         Word::Draw => {
-            let (no, draw) = two_numbers((NODES, DRAWS), fields)?;
+            let (no, draw) = two_numbers((version.nodes(), DRAWS), fields)?;
             ScriptLine::Draw {
                 no: no as u8,
                 draw: draw as u16,
             }
         }
-        Word::Offer => read_offer(fields)?,
-        Word::Fill => read_fill(fields)?,
-        Word::Noise => read_noise(fields)?,
-        Word::End => ScriptLine::End(one_number(ENDS, fields)?),
+        Word::Offer => read_offer(version, fields)?,
+        Word::Fill => read_fill(version, fields)?,
+        Word::Noise => read_noise(version, fields)?,
+        Word::End => ScriptLine::End(one_number(version.ends(), fields)?),
     })
 }
 
@@ -262,7 +267,7 @@ fn read_words(version: Version, line: &[u8]) -> Result<ScriptLine, ScriptReason>
 {
     let mut fields = Fields::of(line);
     let word = fields.next().ok_or(ScriptReason::UnknownWord)?;
-    read_fields(word_in(version, word), fields)
+    read_fields(version, word_in(version, word), fields)
 }
 
 /// Whether the line is skipped.

@@ -9,7 +9,7 @@ use std::alloc::{AllocError, AllocFailed};
 pub enum ScriptReason {
     /// It has more than 1,048,576 octets. Its line is 0.
     TooLong,
-    /// Its first line is neither `t1s 1` nor `t1s 2`, or it has no line. Its line is 1.
+    /// Its first line is none of `t1s 1`, `t1s 2` and `t1s 3`, or it has no line. Its line is 1.
     FirstLine,
     /// A line that isn't skipped stands after `end`.
     AfterEnd,
@@ -26,13 +26,13 @@ pub enum ScriptReason {
     Hex,
     /// A frame has fewer than 14 or more than 1518 octets.
     FrameSize,
-    /// A line that may stand once stands again.
+    /// A line that may stand once stands again, or an `also` line repeats an ID of the same node.
     Twice,
     /// A line names a node that has no earlier `node` line.
     UnknownNode,
     /// A timed tick is below the tick of an earlier timed line, or `end` isn't above the last timed tick.
     Order,
-    /// More than 4096 timed lines, or more than 64 `draw` lines of a node.
+    /// More than 4096 timed lines, more than 64 `draw` lines of a node, or more than three `also` lines of one.
     TooMany,
     /// `end` comes and no `node` line stood before.
     NoNode,

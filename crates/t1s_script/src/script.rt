@@ -4,6 +4,7 @@ ghost use Rattle.t1s_script.specs.Taps.{tap_of};
 
 use std::alloc::{AllocError, Global};
 use std::marker::Model;
+use t1s_base::Ids;
 use t1s_frame::Frame;
 use t1s_harness::Tap;
 
@@ -56,8 +57,8 @@ impl DrawList {
 pub struct NodeLine {
     /// The node's number, at most [`t1s_base::LAST_NODE`].
     pub no: u8,
-    /// Its PLCA node ID.
-    pub id: u8,
+    /// Its PLCA node IDs, that of its `node` line first.
+    pub ids: Ids,
     /// The place on the trunk at which its stub begins, in whole bit times from one end.
     pub place: u8,
     /// The length of its stub, 0 to 31 whole bit times.

@@ -4,6 +4,7 @@ use crate::{
 use std::alloc::{AllocError, Global};
 use std::process::Abort;
 use std::test::Fail;
+use t1s_base::Ids;
 
 /// The script that a text is short for: `/` stands for a line feed, and `B3` for the first line and three nodes.
 fn script_text(alloc: Global, text: &str) -> Result<String, AllocError> {
@@ -121,6 +122,19 @@ fn longer_texts_are_refused_as_a_whole(rt: HostRuntime) -> Result<(), Fail> {
     Ok(check_rows(&rt, alloc, &rows)?)
 }
 
+/// The IDs of a node as a text, in the order of its list.
+fn ids_of(alloc: Global, ids: &Ids) -> Result<String, AllocError> {
+    let mut text = String::new(alloc);
+    for place in 0..4 {
+        if let Some(id) = ids.get(place) {
+            let sign = if place == 0 { "" } else { "+" };
+            let one = format!(in alloc; "{sign}{id}")?;
+            text.push_str(one.as_str())?;
+        }
+    }
+    Ok(text)
+}
+
 /// The numbers of a script as a text: its settings, its seed and its end, and those of each node.
 pub fn numbers_of(alloc: Global, script: &Script) -> Result<String, AllocError> {
     let mut text = format!(in alloc;
@@ -137,7 +151,12 @@ pub fn numbers_of(alloc: Global, script: &Script) -> Result<String, AllocError> 
     for node in script.nodes.as_slice() {
         let numbers = format!(in alloc;
             ", {} {} {} {} {} {}",
-            node.no, node.id, node.place, node.stub, node.to, node.start
+            node.no,
+            ids_of(alloc, &node.ids)?,
+            node.place,
+            node.stub,
+            node.to,
+            node.start
         )?;
         text.push_str(numbers.as_str())?;
     }
@@ -237,7 +256,7 @@ fn the_span_and_the_bound_are_told(rt: HostRuntime) -> Result<(), Fail> {
 fn wide_script(alloc: Global) -> Result<Script, AllocError> {
     let node = |no, id, place, to| NodeLine {
         no,
-        id,
+        ids: Ids::one(id),
         place,
         stub: 255,
         to,

@@ -83,6 +83,7 @@ pub enum Word {
     Set(Setting),
     Seed,
     Node,
+    Also,
     Stub,
     Late,
     ToNode,
@@ -104,6 +105,8 @@ pub enum ScriptLine {
     Seed(u64),
     /// A node of the segment: its number, its ID and its place.
     Node { no: u8, id: u8, place: u8 },
+    /// A further ID of the node of that number.
+    Also { no: u8, id: u8 },
     /// The length of the stub of the node of that number, in whole bit times.
     Stub { no: u8, stub: u8 },
     /// The tick at which the node of that number starts.
@@ -140,6 +143,8 @@ fn word_of(field: &[u8]) -> Option<Word>
         Some(Word::Seed)
     } else if field == b"node".as_slice() {
         Some(Word::Node)
+    } else if field == b"also".as_slice() {
+        Some(Word::Also)
     } else if field == b"stub".as_slice() {
         Some(Word::Stub)
     } else if field == b"late".as_slice() {

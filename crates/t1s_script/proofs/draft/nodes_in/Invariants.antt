@@ -8,5 +8,5 @@ abbrev pub invariant-loop-slot : goal.invariant-loop-slot
 invariant-loop-slot l =
     (goal.iterator-loop-slot).can_next l.slot-iterator ×
     (goal.iterator-loop-slot).is_finite l.slot-iterator ×
-    (l.no + length (array_into_iter_items l.slot-iterator) ≡ 16) ×
+    (l.no + length (array_into_iter_items l.slot-iterator) ≡ 32) ×
     (l.nodes.items ++ nodes_from l.to l.no (array_into_iter_items l.slot-iterator) ≡ nodes_from l.to 0 l.fn.slots)

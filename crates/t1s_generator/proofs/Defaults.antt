@@ -4,7 +4,7 @@ use Rattle.std.specs.Prelude.{filter_map}
 use Rattle.std.specs.List.{enumerate_from, range_with_len, cons_option}
 use Rattle.std.proofs.lemmas.List.Elements.{All-cons, All-nil, All-append, All-head, All-tail}
 use Rattle.t1s_script.specs.ParsedLine.{ParsedLine}
-use Rattle.t1s_script.specs.Values.{number_for, stub_for, timer_for, offer_from, setting_of}
+use Rattle.t1s_script.specs.Values.{number_for, also_for, stub_for, timer_for, offer_from, setting_of}
 use Rattle.t1s_script.specs.Reading.{node_of_line, act_below, act_of, acts_of}
 use Rattle.t1s_script.specs.Fit.{is_noise}
 use Rattle.t1s_script.specs.declared.script.Act.{Act}
@@ -45,6 +45,10 @@ module _ (p : Plan) where
 
   pub burst_default : setting_of Burst (said p) ≡ 0
   burst_default = ap (λ ns. get_or ns 0 0) (none_said p (number_for Burst) refl refl (λ k. refl) (λ k. refl) refl)
+
+  -- a node has the ID of its `node` line alone
+  pub one_id : (number : ℕ) (line : ℕ × ℕ) → (node_of_line (said p) number line).ids ≡ line.0 ∷ []
+  one_id number line = ap (λ further. line.0 ∷ further) (none_said p (also_for number) refl refl (λ k. refl) (λ k. refl) refl)
 
   -- a node has no stub
   pub stub_default : (number : ℕ) (line : ℕ × ℕ) → (node_of_line (said p) number line).stub ≡ 0

@@ -6,7 +6,7 @@ use Rattle.std.proofs.lemmas.List.{length-replicate}
 use borrow.Author.Tests.{le-leb}
 use Rattle.hex.specs.Hex.{encode_lower}
 use Rattle.hex.proofs.HexLemmas.{decode_of-encode_lower}
-use Rattle.t1s_base.specs.Limits.{last_node, most_ticks}
+use Rattle.t1s_base.specs.Limits.{early_last_node, early_most_ticks}
 use Rattle.t1s_base.specs.Numbers.{number_of}
 use Rattle.t1s_base.proofs.Digits.{number_of-decimal}
 use Rattle.t1s_frame.specs.Frame.{frame_of}
@@ -65,15 +65,15 @@ node_read seed k high =
     let place : place_of seed k ≤ 12 = omega arith in
     line_read (codes "node") (decimal k ∷ decimal k ∷ decimal (place_of seed k) ∷ []) _
     (record { octets = refl; short = omega arith }, (decimal_field k (omega arith), (decimal_field k (omega arith), (decimal_field (place_of seed k) (omega arith), tt)))) (omega arith) refl
-    (ap (says (λ n. Node n.0 n.1 n.2)) (three_said last_node 255 255 k k (place_of seed k) (omega arith) (omega arith) (omega arith) (omega arith) (omega arith) (omega arith)))
+    (ap (says (λ n. Node n.0 n.1 n.2)) (three_said early_last_node 255 255 k k (place_of seed k) (omega arith) (omega arith) (omega arith) (omega arith) (omega arith) (omega arith)))
 
 -- a frame with these numbers
-fill_read : (tick number count octet : ℕ) → tick ≤ most_ticks → number ≤ last_node → 14 ≤ count → count ≤ 1518 → octet < 256
+fill_read : (tick number count octet : ℕ) → tick ≤ early_most_ticks → number ≤ early_last_node → 14 ≤ count → count ≤ 1518 → octet < 256
     → IsRead (line (codes "fill" ∷ decimal tick ∷ decimal number ∷ decimal count ∷ encode_lower (octet ∷ []) ∷ [])) (Ok (Offer tick number (frame_of (replicate count octet))))
 fill_read tick number count octet in_run is_node low high small =
     line_read (codes "fill") (decimal tick ∷ decimal number ∷ decimal count ∷ encode_lower (octet ∷ []) ∷ []) _
     (record { octets = refl; short = omega arith }, (decimal_field tick (omega arith), (decimal_field number (omega arith), (decimal_field count (omega arith), (hex_field octet small, tt))))) (omega arith) refl
-    (ap (λ r. fills r (encode_lower (octet ∷ []))) (three_said most_ticks last_node 9999999999 tick number count in_run is_node (omega arith) (omega arith) (omega arith) (omega arith))
+    (ap (λ r. fills r (encode_lower (octet ∷ []))) (three_said early_most_ticks early_last_node 9999999999 tick number count in_run is_node (omega arith) (omega arith) (omega arith) (omega arith))
     ∙ ap (says (λ octets. Offer tick number octets)) (frame_said count octet low high small))
 
 pub frame_read : (seed nodes k : ℕ) → 1 ≤ nodes → nodes ≤ 16 → k < 400
@@ -86,4 +86,4 @@ pub end_read : (seed nodes frames : ℕ) → frames ≤ 400 → IsRead (end_line
 end_read seed nodes frames few =
     let high = tick_high seed nodes frames in
     line_read (codes "end") (decimal (end_of_run seed nodes frames) ∷ []) _ (record { octets = refl; short = omega arith }, (decimal_field (end_of_run seed nodes frames) (omega arith), tt)) (omega arith) refl
-    (ap (says (λ k. End k)) (one_said (record { least = 1; greatest = most_ticks }) (end_of_run seed nodes frames) (omega arith) (omega arith) (omega arith)))
+    (ap (says (λ k. End k)) (one_said (record { least = 1; greatest = early_most_ticks }) (end_of_run seed nodes frames) (omega arith) (omega arith) (omega arith)))

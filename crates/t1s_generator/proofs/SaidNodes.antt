@@ -3,6 +3,7 @@ use Rattle.std.proofs.Common.{◌≡◌, ℕ, zero, suc, ◌+◌, ◌-◌, ◌<�
 use Rattle.std.specs.Prelude.{◌==◌, filter_map, flat_map}
 use Rattle.std.specs.List.{range_with_len, cons_option}
 use Rattle.std.proofs.lemmas.Bool.Decides.{nat_tests}
+use Rattle.t1s_base.specs.Limits.{most_nodes}
 use Rattle.t1s_script.specs.Values.{node_for}
 use Rattle.t1s_script.specs.Reading.{node_of_line, nodes_of_number, nodes_of}
 use Rattle.t1s_script.specs.declared.script.NodeLine.{NodeLine}
@@ -83,4 +84,4 @@ module _ (p : Plan) where
   pub nodes_said : p.nodes ≤ 16 → nodes_of (said p) ≡ map node_said (range_with_len 0 p.nodes)
   nodes_said few =
       let all : p.nodes - 0 ≡ p.nodes = omega arith in
-      nodes_from_number 0 16 (omega arith) ∙ ap (λ n. map node_said (range_with_len 0 n)) all
+      nodes_from_number 0 most_nodes (omega arith) ∙ ap (λ n. map node_said (range_with_len 0 n)) all

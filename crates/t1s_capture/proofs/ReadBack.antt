@@ -270,7 +270,7 @@ pub record AtItems (node : ℕ) (items : List CaptureItem) : Type 0 where
   pub rest : Rest node items parts
   pub read : reads (begun_text node items) ≡ next_is parts
 
-pub reads-items : (node : ℕ) (items : List CaptureItem) → node < 16 → IsItemList items → AtItems node items
+pub reads-items : (node : ℕ) (items : List CaptureItem) → node < most_nodes → IsItemList items → AtItems node items
 reads-items node items h v =
     let all : Ran node ([] ++ items) (with_items node [] (in_burst no_symbols)) (octets_of items) =
     ran_items items node [] (with_items node [] (in_burst no_symbols)) (rest_first refl refl) v in

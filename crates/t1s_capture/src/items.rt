@@ -7,7 +7,7 @@ pub enum Why {
     Magic,
     /// The version is not 1.
     Version,
-    /// The node is not below 16.
+    /// The node is above 31.
     NodeByte,
     /// A count that has to be at least 1 is 0.
     CountZero,

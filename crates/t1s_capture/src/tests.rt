@@ -87,7 +87,8 @@ fn headers_and_counts_are_refused_at_their_first_offence(rt: HostRuntime) {
     check_refused(&rt, b"", 0, Why::Truncated);
     check_refused(&rt, b"T1SD", 3, Why::Magic);
     check_refused(&rt, b"T1SC\x02", 4, Why::Version);
-    check_refused(&rt, b"T1SC\x01\x10", 5, Why::NodeByte);
+    check_refused(&rt, b"T1SC\x01\x20", 5, Why::NodeByte);
+    check_refused(&rt, b"T1SC\x01\xFF", 5, Why::NodeByte);
     check_refused(&rt, b"T1SC\x01\x02\x20\x00\x00\x00\x00", 10, Why::CountZero);
     check_refused(
         &rt,
@@ -119,7 +120,13 @@ fn misplaced_octets_are_refused_where_they_stand(rt: HostRuntime) {
 
 #[test]
 fn gaps_beacons_and_bare_commits_are_read(rt: HostRuntime) {
-    check(&rt, b"T1SC\x01\x02\x21", &[], Ok(NOTHING));
+    for node in [
+        b"T1SC\x01\x00\x21",
+        b"T1SC\x01\x02\x21",
+        b"T1SC\x01\x1F\x21",
+    ] {
+        check(&rt, node, &[], Ok(NOTHING));
+    }
     check(
         &rt,
         b"T1SC\x01\x02\x20\x00\x00\x20\x40\x08\x08\x08\x08\x08\x21",
@@ -132,7 +139,7 @@ fn gaps_beacons_and_bare_commits_are_read(rt: HostRuntime) {
     );
     check(
         &rt,
-        b"T1SC\x01\x0F\x18\x18\x18\x20\x00\x00\x00\x05\x18\x21",
+        b"T1SC\x01\x1F\x18\x18\x18\x20\x00\x00\x00\x05\x18\x21",
         &[
             (9, Item::Bare { start: 0, end: 12 }),
             (15, Item::Bare { start: 17, end: 21 }),

@@ -40,7 +40,7 @@ impl CaptureWriter {
     ghost use Rattle.t1s_capture.specs.WriterTable.{WriterStands, row_step, row_from, row_end, quiet_ticks};
     ghost use Rattle.t1s_capture.specs.declared.row.RowSoFar.TheVariants.{Empty};
 
-    /// A writer for this node, whose number is below 16. No tick has been handed in.
+    /// A writer for this node, whose number is at most 31. No tick has been handed in.
     pub fn new(node: u8) -> CaptureWriter
         requires { node < most_nodes }
         ensures value { result ≡ record { node = node; ticks = 0; row = Empty } }
@@ -67,7 +67,7 @@ impl CaptureWriter {
     }
 
     /// Takes what the node heard in the next tick, a nibble below 16 in a part below 4, and whether it drove in it. A
-    /// writer takes at most 2,000,000 ticks. The octets, at most 16, go after those that were given out before. It
+    /// writer takes at most 20,000,000 ticks. The octets, at most 16, go after those that were given out before. It
     /// has no refusals.
     pub fn heard(&mut self, h: Heard, own: bool) -> Octets
         requires heard { IsHeard h }
@@ -82,7 +82,7 @@ impl CaptureWriter {
     }
 
     /// Takes n ticks at once, at least one, in which nothing is heard and the node does not drive; with the ticks that
-    /// were handed in before they are at most 2,000,000. It gives the octets, and leaves the writer, of as many calls of
+    /// were handed in before they are at most 20,000,000. It gives the octets, and leaves the writer, of as many calls of
     /// `heard` together, in a time that does not grow with n. It has no refusals.
     pub fn quiet(&mut self, n: u64) -> Octets
         requires some { 1 ≤ n }

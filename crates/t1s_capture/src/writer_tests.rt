@@ -3,6 +3,7 @@ ghost use Rattle.t1s_symbols.specs.Ranges.{IsHeard, IsSymbol};
 use crate::{CaptureWriter, Decoder, Next};
 use arrayvec::ArrayVec;
 use std::process::Abort;
+use t1s_base::{MOST_NODES, MOST_TICKS};
 use t1s_symbols::{Heard, Quarter, Symbol};
 
 /// What a writer has given out so far.
@@ -16,7 +17,7 @@ fn put(tape: &mut Tape, octets: &[u8]) {
 
 /// A writer for a node, with its header on the tape.
 fn started(rt: &impl Abort, node: u8) -> (CaptureWriter, Tape) {
-    assert!(rt; node < 16);
+    assert!(rt; node < MOST_NODES);
     let writer = CaptureWriter::new(node);
     let mut tape = Tape::new();
     put(&mut tape, writer.head().as_slice());
@@ -35,15 +36,15 @@ fn hear(
     requires { IsHeard h }
 {
     for _ in 0..times {
-        assert!(rt; writer.ticks() < 2_000_000);
+        assert!(rt; u64::from(writer.ticks()) < MOST_TICKS);
         put(tape, writer.heard(h, own).as_slice());
     }
 }
 
 /// Hands in so many quiet ticks at once.
 fn quiet(rt: &impl Abort, writer: &mut CaptureWriter, tape: &mut Tape, n: u64) {
-    assert!(rt; 1 <= n && n <= 2_000_000);
-    assert!(rt; u64::from(writer.ticks()) + n <= 2_000_000);
+    assert!(rt; 1 <= n && n <= MOST_TICKS);
+    assert!(rt; u64::from(writer.ticks()) + n <= MOST_TICKS);
     put(tape, writer.quiet(n).as_slice());
 }
 
@@ -163,7 +164,7 @@ fn a_row_is_torn_by_what_cannot_be_read(rt: HostRuntime) {
 
 #[test]
 fn a_row_is_torn_by_a_misplaced_symbol_and_by_its_end(rt: HostRuntime) {
-    let (mut writer, mut tape) = started(&rt, 15);
+    let (mut writer, mut tape) = started(&rt, 31);
     hear_symbol(&rt, &mut writer, &mut tape, Symbol::J, 1);
     hear_symbol(&rt, &mut writer, &mut tape, Symbol::H, 2);
     hear(&rt, &mut writer, &mut tape, Heard::Nothing, false, 3);
@@ -174,7 +175,7 @@ fn a_row_is_torn_by_a_misplaced_symbol_and_by_its_end(rt: HostRuntime) {
         writer,
         tape,
         27,
-        b"T1SC\x01\x0F\x18\x22\x00\x00\x00\x08\x20\x00\x00\x00\x03\x18\x18\x04\x22\x00\x00\x00\x00\x21",
+        b"T1SC\x01\x1F\x18\x22\x00\x00\x00\x08\x20\x00\x00\x00\x03\x18\x18\x04\x22\x00\x00\x00\x00\x21",
     );
 }
 
@@ -236,12 +237,12 @@ fn quiet_stretches_are_gaps(rt: HostRuntime) {
         b"T1SC\x01\x02\x20\x00\x00\x20\x45\x08\x08\x08\x08\x08\x20\x00\x00\x00\x13\x21",
     );
     let (mut writer, mut tape) = started(&rt, 0);
-    quiet(&rt, &mut writer, &mut tape, 2_000_000);
+    quiet(&rt, &mut writer, &mut tape, 20_000_000);
     check(
         &rt,
         writer,
         tape,
-        2_000_000,
-        b"T1SC\x01\x00\x20\x00\x1E\x84\x80\x21",
+        20_000_000,
+        b"T1SC\x01\x00\x20\x01\x31\x2D\x00\x21",
     );
 }

@@ -1,10 +1,11 @@
 -- The one node with ID 0 in its world: what it drives in each tick, and its drives.
-use Rattle.std.proofs.Common.{◌≡◌, ℕ, zero, suc, ◌+◌, ◌-◌, ◌*◌, ◌%◌, ◌<◌, ◌≤◌, ◌⊎◌, inl, inr, cond, eqb, refl, arith, Option, Some, None, ◌∙◌, sym, ap, subst, min, [], ◌↔◌}
+use Rattle.std.proofs.Common.{◌≡◌, ℕ, zero, suc, ◌+◌, ◌-◌, ◌*◌, ◌%◌, ◌<◌, ◌≤◌, ◌⊎◌, inl, inr, Bool, true, false, cond, refl, arith, Option, Some, None, ◌∙◌, sym, ap, subst, min, [], ◌↔◌}
 use Rattle.std.specs.Prelude.{slice_get, IsSome, IsNone}
 use Rattle.std.proofs.lemmas.Bool.{cases_lt, cases_eq, false≢true}
 use Rattle.std.proofs.Math.Nat.{mul-le-mul_right}
 use Rattle.std.proofs.lemmas.Option.{slice_get_cases, slice_get_within, get_or_from_slice_get}
 use Rattle.std.proofs.lemmas.List.{length-map}
+use Rattle.t1s_base.specs.NodeIds.{has_id}
 use Rattle.t1s_symbols.specs.declared.Heard.{Heard}
 use Rattle.t1s_symbols.specs.declared.Heard.TheVariants.{Nothing}
 use Rattle.t1s_symbols.specs.declared.Quarter.{Quarter}
@@ -21,6 +22,7 @@ use Rattle.t1s_script.specs.Taps.{taps_of}
 use Rattle.t1s_scramble.specs.Scrambled.{start_history}
 use Rattle.t1s_pcs_tx.specs.State.{quarter_of}
 use Rattle.plca_control.specs.declared.State.TheVariants.{Disabled, Recover, Resync}
+use Rattle.plca_control.specs.ControlTable.{is_out}
 use Rattle.t1s_node.specs.Node.{NodeState}
 use Rattle.t1s_line.specs.declared.track.Track.{Track}
 use Rattle.t1s_line.specs.Outcomes.{DriveOutcome, HearOutcome}
@@ -40,9 +42,9 @@ alone t x k e start =
     ∙ (ap (λ (r : Track × HearOutcome). r.0) (hear_started t x (driven_track k) (omega (arith, start)))
     ∙ ap (λ (y : Heard). hearing_track y (driven_track k)) e)
 
--- control of a node with ID 0 begins in Recover
-first_recovers : (id : ℕ) → id ≡ 0 → cond (eqb id 255) Disabled (cond (eqb id 0) (Recover 0) Resync) ≡ Recover 0
-first_recovers id e = rw e refl
+-- control of a node with ID 0 begins in Recover, where it takes part
+first_recovers : (out coordinates : Bool) → out ≡ false → coordinates ≡ true → cond out Disabled (cond coordinates (Recover 0) Resync) ≡ Recover 0
+first_recovers out coordinates part zero_id = rw (part, zero_id) refl
 
 -- the place in a round is determined
 same_place : (period k r l q : ℕ) → r < period → q < period → k * period + r ≡ l * period + q → r ≡ q
@@ -156,8 +158,8 @@ module _ (s : Script) (z : ℕ) (line : NodeLine) (valid : IsScript s) (none : s
       inl (
         omega arith,
         record {
-          set = record { id = one.zero_id; count = refl; to = refl; rise = refl; fall = refl };
-          state = first_recovers line.id one.zero_id;
+          set = record { coordinates = one.zero_id; count = refl; to = refl; rise = refl; fall = refl };
+          state = first_recovers (is_out line.ids) (has_id line.ids 0) one.takes_part one.zero_id;
           quiet = record { past = start_history; tx = refl; frameless = first_frameless s line };
           carrier = refl;
         },

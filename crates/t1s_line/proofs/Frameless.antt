@@ -1,6 +1,6 @@
 -- A node that holds no frame: its MAC rests, its data path is idle and its delay line is empty, and so it stays. Its
 -- drive phase then is control and the transmitter alone.
-use Rattle.std.proofs.Common.{◌≡◌, ℕ, ◌+◌, ◌<◌, Bool, true, false, cond, eqb, ne_eqb, List, [], refl, ◌∙◌, ap, arith}
+use Rattle.std.proofs.Common.{◌≡◌, ℕ, ◌+◌, ◌<◌, Bool, true, false, ◌&&◌, cond, eqb, ne_eqb, List, [], refl, ◌∙◌, ap, arith}
 use Rattle.t1s_symbols.specs.declared.Class.{Class}
 use Rattle.t1s_ring.specs.Queue.{Queue}
 use Rattle.t1s_pcs_tx.specs.declared.TxCmd.{TxCmd}
@@ -23,6 +23,11 @@ use Rattle.t1s_mac.specs.MacTable.{Row, row, resting, mac_row}
 use Rattle.t1s_mac.specs.State.{Resting, MacState}
 use Rattle.t1s_node.specs.Node.{NodeState, node_drive}
 use Rattle.t1s_node.specs.Core.{Core, CoreDrive, LineReading, control_turn, mac_turn, tx_turn, path_turn, core_drive}
+
+-- a condition that asks for more than holds
+pub never_and : (b c : Bool) → c ≡ false → (b && c) ≡ false
+never_and true c e = e
+never_and false c e = refl
 
 -- ---- the data path and the MAC
 

@@ -1,6 +1,6 @@
 -- A node that is never offered a frame drives nothing but beacons, whatever it hears.
-use Rattle.std.proofs.Common.{◌≡◌, ℕ, zero, suc, ◌+◌, ◌-◌, ◌*◌, Bool, true, false, cond, eqb, ltb, leb, List, refl, sym, ◌∙◌, ap, Some}
-use Rattle.std.specs.Prelude.{◌&&◌}
+use Rattle.std.proofs.Common.{◌≡◌, ℕ, zero, suc, ◌+◌, ◌-◌, ◌*◌, Bool, true, false, cond, eqb, leb, List, refl, sym, ◌∙◌, ap, Some}
+use Rattle.std.specs.Prelude.{◌&&◌, not}
 use Rattle.t1s_symbols.specs.declared.Heard.{Heard}
 use Rattle.t1s_symbols.specs.declared.Quarter.{Quarter}
 use Rattle.t1s_symbols.specs.declared.Symbol.TheVariants.{N}
@@ -14,13 +14,13 @@ use Rattle.plca_control.specs.declared.ControlIn.{ControlIn}
 use Rattle.plca_control.specs.declared.State.{State}
 use Rattle.plca_control.specs.declared.State.TheVariants.{Disabled, Recover, Resync, Early, Beacon, Syncing, WaitTo, Receive, Commit, Transmit, Burst, Drain}
 use Rattle.plca_control.specs.State.{ControlState}
-use Rattle.plca_control.specs.ControlTable.{control_row, reach, is_beacon}
+use Rattle.plca_control.specs.ControlTable.{control_row, coord, is_out, mine, reach, is_beacon}
 use Rattle.t1s_mac.specs.declared.picked_draws.PickedDraws.{PickedDraws}
 use Rattle.t1s_node.specs.declared.settings.NodeSet.{NodeSet}
 use Rattle.t1s_node.specs.Node.{NodeState, node_start, reading_of, node_drive, node_hear}
 use Rattle.t1s_node.specs.NodeRuns.{node_at}
 use Rattle.t1s_line.specs.FramelessNodes.{FramelessNodesBeacon, without_offers}
-use Rattle.t1s_line.proofs.Frameless.{DrivesTo, given, told_control}
+use Rattle.t1s_line.proofs.Frameless.{never_and, DrivesTo, given, told_control}
 use Rattle.t1s_line.proofs.Signals.{Signal, quiet, beacon, signal_tx, signal_step, InRange, IsSpare, HasSignal, step_low, signal_drives}
 
 -- control holds no opportunity
@@ -33,10 +33,10 @@ is_waiting (Beacon n) = true
 is_waiting Syncing = true
 is_waiting (WaitTo c n) = true
 is_waiting (Receive c) = true
-is_waiting (Commit n b) = false
-is_waiting (Transmit b) = false
-is_waiting (Burst n b) = false
-is_waiting Drain = true
+is_waiting (Commit c n b) = false
+is_waiting (Transmit c b) = false
+is_waiting (Burst c n b) = false
+is_waiting (Drain c) = true
 
 -- and with no frame ready it goes on so, and tells nothing but a beacon
 record Waits (r : State × TxCmd) : Type 0 where
@@ -57,15 +57,11 @@ unless : (b : Bool) (x y : State × TxCmd) → b ≡ false → Waits y → Waits
 unless true x y e h = cc
 unless false x y e h = h
 
-never_and : (b c : Bool) → c ≡ false → (b && c) ≡ false
-never_and true c e = e
-never_and false c e = refl
-
 reach_waits : (s : ControlSet) (c : ℕ) → Waits (reach s false c)
 reach_waits s c =
-    either (eqb s.id 0 && leb s.count c) _ _ (beacons 20)
-    (unless (eqb c s.id && false) _ _ (never_and (eqb c s.id) false refl)
-    (either (ltb 0 s.id && leb 255 c) _ _ (waits Resync refl) (waits (WaitTo c s.to) refl)))
+    either (coord s && leb s.count c) _ _ (beacons 20)
+    (unless (mine s c && false) _ _ (never_and (mine s c) false refl)
+    (either (not (coord s) && leb 255 c) _ _ (waits Resync refl) (waits (WaitTo c s.to) refl)))
 
 row_waits : (s : ControlSet) (state : State) (i : ControlIn) → i.ready ≡ false → is_waiting state ≡ true → Waits (control_row s state i)
 row_waits s state i none e = go state e (rw none (λ c. reach_waits s c))
@@ -80,12 +76,12 @@ row_waits s state i none e = go state e (rw none (λ c. reach_waits s c))
     go (WaitTo c n) e r = either i.crs _ _ (waits (Receive c) refl) (either (eqb n 1) _ _ (r (c + 1)) (waits (WaitTo c (n - 1)) refl))
     go (Receive c) e r =
         either i.crs _ _ (waits (Receive c) refl)
-        (either (is_beacon i.class && ltb 0 s.id) _ _ (r 0)
-        (either (is_beacon i.class && eqb s.id 0) _ _ (waits (Recover 0) refl) (r (c + 1))))
-    go (Commit n b) e r = cc
-    go (Transmit b) e r = cc
-    go (Burst n b) e r = cc
-    go Drain e r = either i.crs _ _ (waits Drain refl) (r (s.id + 1))
+        (either (is_beacon i.class && not (coord s)) _ _ (r 0)
+        (either (is_beacon i.class && coord s) _ _ (waits (Recover 0) refl) (r (c + 1))))
+    go (Commit c n b) e r = cc
+    go (Transmit c b) e r = cc
+    go (Burst c n b) e r = cc
+    go (Drain c) e r = either i.crs _ _ (waits (Drain c) refl) (r (c + 1))
 
 -- such a node from tick to tick
 record HoldsNone (n : NodeState) : Type 0 where
@@ -140,7 +136,7 @@ module _ (set : NodeSet) (room : ℕ) (draws : PickedDraws) (heard : ℕ → Hea
   holds_none : (t : ℕ) → HoldsNone (node_at start (without_offers heard) t)
   unfolding node_at
   holds_none zero = record {
-    state = first_waits (eqb set.control.id 255) (eqb set.control.id 0);
+    state = first_waits (is_out set.control.ids) (coord set.control);
     x = quiet;
     low = tt;
     signal = record { past = start_history; tx = refl; frameless = record { rests = refl; none = refl; line = refl; path = refl } };

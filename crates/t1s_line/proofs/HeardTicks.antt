@@ -157,5 +157,5 @@ module _ (s : Script) where
       go : (o : Option ℕ) → position_of s node ≡ o → option_map (λ j. get_or ticks j (Nothing, false)) o ≡ option_map (λ j. tick_in s j t) o
       go None e = refl
       go (Some j) e =
-          let none : NodeLine = get_or s.nodes 0 (record { no = 0; id = 0; place = 0; stub = 0; to = 0; start = 0; draws = None }) in
+          let none : NodeLine = get_or s.nodes 0 (record { no = 0; ids = []; place = 0; stub = 0; to = 0; start = 0; draws = None }) in
           ap Some (tick_is t j (position-Some (λ (n : NodeLine). n.no == node) s.nodes j none e).0)

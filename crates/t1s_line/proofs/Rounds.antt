@@ -2,7 +2,7 @@
 -- opportunity for each ID.
 use Rattle.std.proofs.Common.{◌≡◌, ℕ, ◌+◌, ◌-◌, ◌*◌, ◌<◌, ◌≤◌, ◌⊎◌, inl, inr, Bool, true, false, cond, eqb, ltb, leb, refl, ◌∙◌, arith, rules, ap, subst}
 use Rattle.std.proofs.Math.Nat.{mul-le-mul_right}
-use Rattle.std.specs.Prelude.{is_some, Option, ◌||◌}
+use Rattle.std.specs.Prelude.{is_some, Option, ◌||◌, ◌&&◌}
 use Rattle.std.proofs.lemmas.Bool.Decides.{nat_tests}
 use Rattle.std.proofs.lemmas.Bool.{cases_lt}
 use Rattle.t1s_symbols.specs.declared.Heard.TheVariants.{Nothing}
@@ -12,15 +12,15 @@ use Rattle.t1s_pcs_tx.specs.declared.TxCmd.TheVariants.{None as NoCmd, Beacon as
 use Rattle.plca_control.specs.declared.State.{State}
 use Rattle.plca_control.specs.declared.State.TheVariants.{Recover, Beacon, Syncing, WaitTo}
 use Rattle.plca_control.specs.State.{ControlState}
-use Rattle.plca_control.specs.ControlTable.{control_row}
+use Rattle.plca_control.specs.ControlTable.{control_row, coord, mine}
 use Rattle.t1s_node.specs.CarrierTable.{carrier_step}
 use Rattle.t1s_node.specs.Node.{NodeState, reading_of, node_drive, node_hear}
-use Rattle.t1s_line.proofs.Frameless.{DrivesTo, given, told_control}
+use Rattle.t1s_line.proofs.Frameless.{never_and, DrivesTo, given, told_control}
 use Rattle.t1s_line.proofs.Signals.{Signal, quiet, beacon, signal_tx, sounds, sounds_is, signal_step, InRange, IsSpare, HasSignal, signal_drives}
 
 -- what the node is set to
 pub record IsSetTo (n : NodeState) (ids wait up down : ℕ) : Type 0 where
-  pub id : n.core.control.set.id ≡ 0
+  pub coordinates : coord n.core.control.set ≡ true
   pub count : n.core.control.set.count ≡ ids
   pub to : n.core.control.set.to ≡ wait
   pub rise : n.rise ≡ up
@@ -85,7 +85,7 @@ module _ (ids wait up down : ℕ) where
       let d : DrivesTo (reading_of n) n.core (signal_tx y has.past) = signal_drives n x y cmd has low spare told step in
       let set_is : (lone n).core.control.set ≡ n.core.control.set = ap (λ (k : ControlState). k.set) d.control in
       record {
-        set = record { id = rw set_is set.id; count = rw set_is set.count; to = rw set_is set.to; rise = set.rise; fall = set.fall };
+        set = record { coordinates = rw set_is set.coordinates; count = rw set_is set.count; to = rw set_is set.to; rise = set.rise; fall = set.fall };
         state_is = ap (λ (k : ControlState). k.state) d.control ∙ ap (λ (r : State × TxCmd). r.0) e;
         driving = record { past = has.past; tx = d.tx; frameless = d.frameless };
         carrier = ap (λ (q : Option Quarter). carrier_step n.carrier (is_some q || false) n.rise n.fall) d.quarter
@@ -144,7 +144,7 @@ module _ (ids wait up down : ℕ) where
   fading_last r n h e some low =
       let off : leb down (r - 19) ≡ true = search (rules, nat_tests) in
       let none : leb ids 0 ≡ false = search (rules, nat_tests) in
-      let t = ticked n (WaitTo 0 wait) NoCmd quiet quiet h.set h.quiet tt tt (rw (h.state, h.carrier, off, h.set.id, h.set.count, none, h.set.to) refl) refl in
+      let t = ticked n (WaitTo 0 wait) NoCmd quiet quiet h.set h.quiet tt tt (rw (h.state, h.carrier, off, h.set.coordinates, h.set.count, none, h.set.to) refl) refl in
       record { set = t.set; c = 0; c_low = some; m = wait; m_low = low; m_high = omega arith; place = omega arith; state = t.state_is; quiet = t.driving; carrier = rw (t.carrier, h.carrier, off) refl }
 
   turn_more : (r : ℕ) (n : NodeState) (h : Turn r n) → 1 < h.m → Turn (r + 1) (lone n)
@@ -156,14 +156,14 @@ module _ (ids wait up down : ℕ) where
   turn_next : (r : ℕ) (n : NodeState) (h : Turn r n) → h.m ≡ 1 → h.c + 1 < ids → 1 ≤ wait → Turn (r + 1) (lone n)
   turn_next r n h e lt low =
       let none : leb ids (h.c + 1) ≡ false = search (rules, nat_tests) in
-      let mine : eqb (h.c + 1) 0 ≡ false = search (rules, nat_tests) in
-      let t = ticked n (WaitTo (h.c + 1) wait) NoCmd quiet quiet h.set h.quiet tt tt (rw (h.state, h.carrier, e, h.set.id, h.set.count, none, mine, h.set.to) refl) refl in
+      let unready : (mine n.core.control.set (h.c + 1) && false) ≡ false = never_and (mine n.core.control.set (h.c + 1)) false refl in
+      let t = ticked n (WaitTo (h.c + 1) wait) NoCmd quiet quiet h.set h.quiet tt tt (rw (h.state, h.carrier, e, h.set.coordinates, h.set.count, none, unready, h.set.to) refl) refl in
       record { set = t.set; c = h.c + 1; c_low = lt; m = wait; m_low = low; m_high = omega arith; place = omega (arith, h.place); state = t.state_is; quiet = t.driving; carrier = rw (t.carrier, h.carrier) refl }
 
   turn_last : (r : ℕ) (n : NodeState) (h : Turn r n) → h.m ≡ 1 → h.c + 1 ≡ ids → Sending 0 (lone n)
   turn_last r n h e last =
       let all : leb ids (h.c + 1) ≡ true = search (rules, nat_tests) in
-      let t = ticked n (Beacon 20) BeaconCmd quiet (beacon 0) h.set h.quiet tt tt (rw (h.state, h.carrier, e, h.set.id, h.set.count, all) refl) refl in
+      let t = ticked n (Beacon 20) BeaconCmd quiet (beacon 0) h.set h.quiet tt tt (rw (h.state, h.carrier, e, h.set.coordinates, h.set.count, all) refl) refl in
       record { set = t.set; within = omega arith; state = t.state_is; part = 0; part_low = omega arith; symbol = 0; part_is = refl; driving = t.driving; carrier = rw (t.carrier, h.carrier) refl }
 
   -- the length of a round

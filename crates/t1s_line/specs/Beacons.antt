@@ -1,17 +1,21 @@
 -- The beacons of a run without frames: where one node alone has the ID 0, it alone drives.
-use Rattle.std.specs.Prelude.{◌≡◌, ◌≢◌, [], ◌↔◌, ℕ, ◌+◌, ◌-◌, ◌*◌, ◌%◌, ◌<◌, ◌≤◌, min, Some, slice_get}
+use Rattle.std.specs.Prelude.{◌≡◌, ◌≢◌, [], ◌↔◌, true, false, ℕ, ◌+◌, ◌-◌, ◌*◌, ◌%◌, ◌<◌, ◌≤◌, min, Some, slice_get}
+use Rattle.t1s_base.specs.NodeIds.{has_id}
 use Rattle.t1s_symbols.specs.declared.Symbol.TheVariants.{N}
+use Rattle.plca_control.specs.ControlTable.{is_out}
 use Rattle.t1s_world.specs.Drives.{IsDrive}
 use Rattle.t1s_script.specs.Script.{IsScript}
 use Rattle.t1s_script.specs.declared.script.Script.{Script}
 use Rattle.t1s_script.specs.declared.script.NodeLine.{NodeLine}
 use Rattle.t1s_line.specs.World.{driven_in}
 
--- the node at position z of the script, and no other, has the ID 0
+-- the node at position z of the script, and no other, has the ID 0 among its IDs; and the first of them isn't 255, with which a
+-- node takes no part
 pub record IsLoneCoordinator (s : Script) (z : ℕ) (line : NodeLine) : Type 0 where
   pub here : slice_get s.nodes z ≡ Some line
-  pub zero_id : line.id ≡ 0
-  pub others : (i : ℕ) (l : NodeLine) → slice_get s.nodes i ≡ Some l → i ≢ z → 0 < l.id
+  pub zero_id : has_id line.ids 0 ≡ true
+  pub takes_part : is_out line.ids ≡ false
+  pub others : (i : ℕ) (l : NodeLine) → slice_get s.nodes i ≡ Some l → i ≢ z → has_id l.ids 0 ≡ false
 
 -- the tick at which beacon k begins: after 258 opportunities of silence, and then each time after 20
 -- ticks of beacon, `fall` ticks until it is over, and an opportunity for each ID of the count

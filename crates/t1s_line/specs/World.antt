@@ -39,7 +39,7 @@ use Rattle.t1s_line.specs.Track.{track_phases}
 
 -- what the control of a node is set to
 abbrev pub set_of : Script → NodeLine → ControlSet
-set_of s n = record { id = n.id; count = s.count; to = n.to; burst = s.burst }
+set_of s n = record { ids = n.ids; count = s.count; to = n.to; burst = s.burst }
 
 abbrev pub node_set_of : Script → NodeLine → NodeSet
 node_set_of s n = record { control = set_of s n; rise = s.rise; fall = s.fall }

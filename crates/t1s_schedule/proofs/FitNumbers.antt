@@ -7,7 +7,7 @@ use Rattle.t1s_ring.specs.declared.queued.Queued.{Queued}
 use Rattle.t1s_symbols.specs.declared.Heard.{Heard}
 use Rattle.t1s_world.specs.Waves.{IsCycleSettings}
 use Rattle.t1s_node.specs.Node.{IsNodeSet}
-use Rattle.t1s_turns.specs.NodeOverWaves.{cycle_of}
+use Rattle.t1s_turns.specs.NodeOverWaves.{cycle_of, HasLowIds}
 use Rattle.t1s_line.specs.World.{node_set_of}
 use Rattle.t1s_world.specs.Schedule.{IsFar, AreOwners}
 use Rattle.t1s_script.specs.Fit.{IsFit}
@@ -33,7 +33,7 @@ pub record FitCable (s : Script) (z : ℕ) : Type 0 where
   pub fall_low : 1 ≤ s.fall
   pub node_sets : (j : ℕ) (line : NodeLine) → slice_get s.nodes j ≡ Some line → IsNodeSet (node_set_of s line)
   pub settings : (j : ℕ) (line : NodeLine) → slice_get s.nodes j ≡ Some line → IsCycleSettings (cycle_of (node_set_of s line))
-  pub low_ids : (j : ℕ) (line : NodeLine) → slice_get s.nodes j ≡ Some line → line.id < s.count
+  pub low_ids : (j : ℕ) (line : NodeLine) → slice_get s.nodes j ≡ Some line → HasLowIds (node_set_of s line)
   pub timers : (j : ℕ) (line : NodeLine) → slice_get s.nodes j ≡ Some line → line.to ≡ s.to
   pub nodes : (j : ℕ) (line : NodeLine) → slice_get s.nodes j ≡ Some line → FitNode s j line
   pub quiet : (t : ℕ) (h : Heard) → with_noise s.acts t h ≡ h
@@ -55,7 +55,7 @@ fit_cable s script fit =
         fall_low = script.fall_low;
         node_sets = λ j line at. (fit_node s script fit j line at).settings;
         settings = λ j line at. (let node = fit_node s script fit j line at in subst IsCycleSettings (sym node.cycle) node.is_cycle);
-        low_ids = λ j line at. (fit_node s script fit j line at).low_id;
+        low_ids = λ j line at. (fit_node s script fit j line at).low_ids;
         timers = λ j line at. (fit_node s script fit j line at).timer;
         nodes = fit_node s script fit;
         quiet = no_noise s fit;

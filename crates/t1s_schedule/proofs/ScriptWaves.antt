@@ -4,6 +4,7 @@ use Rattle.std.proofs.lemmas.Bool.{cases_lt, cases_eq}
 use Rattle.std.proofs.lemmas.Bool.Decides.{nat_tests}
 use Rattle.std.proofs.lemmas.List.{length-map}
 use Rattle.std.proofs.lemmas.Option.{slice_get_within}
+use Rattle.t1s_base.specs.NodeIds.{has_id}
 use Rattle.t1s_harness.specs.Distances.{distance}
 use Rattle.t1s_harness.proofs.Distances.{distance_symm, far_point}
 use Rattle.t1s_symbols.specs.declared.Heard.{Heard}
@@ -23,18 +24,9 @@ use Rattle.t1s_script.specs.Taps.{span_of, tap_of, taps_of}
 use Rattle.t1s_line.specs.World.{machine_of, first_tracks, start_of, driven_in}
 use Rattle.t1s_turns.specs.NodeOverWaves.{HearsWaves}
 use Rattle.t1s_line.specs.World.{node_set_of, draws_of}
-use Rattle.t1s_schedule.specs.SharedLine.{far_in, at_in, owner_in, has_id, first_beacon}
+use Rattle.t1s_schedule.specs.SharedLine.{far_in, at_in, owner_in, owns_id, first_beacon}
 use Rattle.t1s_schedule.proofs.NodeRuns.{given, drives_from}
 use Rattle.t1s_schedule.proofs.SharedState.{is_drive_of, drives_in, Misses, misses_it, is_on, none_drives, each_as, FitCable, cycle_with, cycle_in, own_wave, IsSpelled, SharedAt, of_nodes, spells_as}
-
-same_test : (x y : ℕ) → (x == y) ≡ (y == x)
-same_test x y = elim (cases_eq x y) [
-  | inl same ↦ rw same refl
-  | inr other ↦
-      let a : (x == y) ≡ false = grind (arith, nat_tests, other) in
-      let b : (y == x) ≡ false = grind (arith, nat_tests, other) in
-      a ∙ sym b
-]
 
 pub none_of : (o : Option Quarter) → is_some o ≡ false → o ≡ None
 none_of None e = refl
@@ -52,8 +44,8 @@ module _ (s : Script) (z : ℕ) (fit : FitCable s z) (j : ℕ) (line : NodeLine)
   pub cycle_is : IsCycleSettings (cycle_in s line)
   cycle_is = subst (λ (to : ℕ). IsCycleSettings (cycle_with s line to)) (fit.timers j line found) (fit.settings j line found)
 
-  pub owns_as : (x : ℕ) → (x == line.id) ≡ owner_in s j x
-  owns_as x = same_test x line.id ∙ sym (ap (λ (o : Option NodeLine). has_id x o) found)
+  pub owns_as : (x : ℕ) → has_id line.ids x ≡ owner_in s j x
+  owns_as x = ap (owns_id x) (sym found)
 
   pub starts_at : start_of s j ≡ line.start
   starts_at = get_or-map (λ (n : NodeLine). n.start) s.nodes j line 0 found

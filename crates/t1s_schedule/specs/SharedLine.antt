@@ -1,6 +1,7 @@
 -- What the drives of a run are on a fit script: a schedule (IEEE 802.3 clause 148: opportunities follow one another in the order
 -- of the IDs).
-use Rattle.std.specs.Prelude.{◌≡◌, ◌↔◌, ℕ, ◌+◌, ◌*◌, Bool, true, false, ◌==◌, List, length, Option, None, Some, Contains, slice_get}
+use Rattle.std.specs.Prelude.{◌≡◌, ◌↔◌, ℕ, ◌+◌, ◌*◌, Bool, true, false, List, length, Option, None, Some, Contains, slice_get}
+use Rattle.t1s_base.specs.NodeIds.{has_id}
 use Rattle.t1s_harness.specs.Distances.{Point, far, point_at}
 use Rattle.t1s_symbols.specs.declared.Quarter.{Quarter}
 use Rattle.t1s_symbols.specs.declared.Symbol.{Symbol}
@@ -22,13 +23,13 @@ far_in s i p = far (taps_of s) i p
 abbrev pub at_in : (s : Script) → ℕ → Point (taps_of s)
 at_in s i = point_at (taps_of s) i
 
--- whether the node at position i has the ID x
-abbrev pub has_id : ℕ → Option NodeLine → Bool
-has_id x None = false
-has_id x (Some line) = line.id == x
+-- whether the node at position i has the ID x among its IDs
+abbrev pub owns_id : ℕ → Option NodeLine → Bool
+owns_id x None = false
+owns_id x (Some line) = has_id line.ids x
 
 abbrev pub owner_in : Script → ℕ → ℕ → Bool
-owner_in s i x = has_id x (slice_get s.nodes i)
+owner_in s i x = owns_id x (slice_get s.nodes i)
 
 -- the node at position z has the ID 0
 abbrev pub IsCoordinator : Script → ℕ → Type 0
@@ -53,8 +54,9 @@ begins_beacon (Some q) = is_beacon_symbol q.sym
 -- * They are exactly the maximal intervals of ticks below T in which a node drives, and each is a beacon exactly where its first
 --   symbol is N.
 -- * The first is the beacon of the node with ID 0 at its tick, and there is none only where T is at most that tick; each later one
---   begins in the opportunity of its place behind the one before it.
--- * A beacon is that node's, any other drive has the ID of its node.
+--   begins in the opportunity of its place behind the one before it: as its node hears it, the gap between the two is `fall` and
+--   a multiple of `to`, and its place is the ID from which all count behind the one before, and one more for each `to` in the gap.
+-- * A beacon is that node's and has the count for its place, any other drive has an ID of its node.
 -- * Where the newest has ended below T, T is at most the tick in which the next beacon is due.
 pub record IsSchedule (s : Script) (z T : ℕ) (ds : List Drive) : Type 0 where
   pub exact : (i a e : ℕ) → IsDrive (driven_in s i) T a e ↔ ((d : Drive) × Contains ds d × (d.node ≡ i) × (d.start ≡ a) × (d.stop ≡ e))

@@ -80,7 +80,8 @@ module _ (s : Script) (script : IsScript s) (z : ℕ) (fit : FitCable s z) (know
         let these = set_waves s z fit i line found T ds shared in
         let unit : ℕ = bound.longest_opportunity (cycle_of (node_set_of s line)) (longest_run s.burst) (span_of s) + 20 in
         let same = ap (λ (b : ℕ). u + (q + 1) * b) bound_is in
-        let (v, soon, leaves) = leaves_in_time (node_set_of s line) (fit.node_sets i line found) (fit.low_ids i line found) s.room
+        let (v, soon, leaves) = leaves_in_time (node_set_of s line) (fit.node_sets i line found) (fit.low_ids i line found)
+        (fit.nodes i line found).own_id (fit.nodes i line found).owned s.room
         (draws_of s line) (given s i line found) (λ w. fit.frames (line.start + w) line.no) line.start end
         (waves_of s z fit i line found ds) these (hears_waves s z fit i line found T ds shared)
         (longest_run s.burst) unit (each_lasts T ds (drives_hold s z fit known few T ds shared)) (omega arith)

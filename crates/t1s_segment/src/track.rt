@@ -121,7 +121,7 @@ pub fn first_track(alloc: Global, script: &Script, line: &NodeLine) -> Result<Tr
 {
     let set = NodeSet {
         control: ControlSet {
-            id: line.id,
+            ids: line.ids,
             count: script.count,
             to: line.to,
             burst: script.burst,

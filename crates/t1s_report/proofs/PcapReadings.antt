@@ -6,6 +6,7 @@ use Rattle.std.proofs.Math.Nat.{mod-eq_of_lt, mod-lt, div-add-mod}
 use Rattle.std.proofs.lemmas.List.{append_cancel_left}
 use Rattle.std.proofs.lemmas.List.Elements.{All-head, All-tail}
 use Rattle.std.proofs.lemmas.Nat.{from_be_bytes-to_be_bytes_4}
+use Rattle.t1s_base.specs.Limits.{most_ticks}
 use Rattle.t1s_report.specs.PcapText.{PcapRecord, pcap_head, four_octets, record_text, pcap_text, IsPcapRecord}
 
 -- texts of the same length are told apart from what follows them
@@ -39,7 +40,7 @@ parts r a = simp append_assoc
 same_time : (t u : ℕ) → t / 1000000 ≡ u / 1000000 → t % 1000000 ≡ u % 1000000 → t ≡ u
 same_time t u d m = sym (div-add-mod t 1000000) ∙ (ap (λ (q : ℕ). 1000000 * q + t % 1000000) d ∙ (ap (λ (r : ℕ). 1000000 * (u / 1000000) + r) m ∙ div-add-mod u 1000000))
 
-seconds_low : (t : ℕ) → t < 2000000 → t / 1000000 < 2 ^ 32
+seconds_low : (t : ℕ) → 10 * t < most_ticks → t / 1000000 < 2 ^ 32
 seconds_low t low = omega (arith, div-add-mod t 1000000)
 
 parts_low : (t : ℕ) → t % 1000000 < 2 ^ 32

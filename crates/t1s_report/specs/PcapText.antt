@@ -1,8 +1,9 @@
 -- The frames that arrive at a node, as a classic pcap file. All its numbers stand high octet first.
-use Rattle.std.specs.Prelude.{ℕ, ◌/◌, ◌%◌, ◌^◌, ◌<◌, ◌≤◌, ◌≡◌, ◌==◌, List, [], ◌∷◌, ◌++◌, All, length, filter_map, Option, None, Some, if◌then◌else◌}
+use Rattle.std.specs.Prelude.{ℕ, ◌*◌, ◌/◌, ◌%◌, ◌^◌, ◌<◌, ◌≤◌, ◌≡◌, ◌==◌, List, [], ◌∷◌, ◌++◌, All, length, filter_map, Option, None, Some, if◌then◌else◌}
 use Rattle.std.specs.Int.{to_be_bytes, w32}
 use Rattle.std.specs.List.{flat_map}
 use Rattle.std.specs.Option.{option_to_list}
+use Rattle.t1s_base.specs.Limits.{most_ticks}
 use Rattle.t1s_world.specs.Events.{events_below}
 use Rattle.t1s_pcs_rx.specs.declared.piece.Kind.{Kind}
 use Rattle.t1s_pcs_rx.specs.declared.piece.Kind.TheVariants.{Good, BadFcs, Odd, Runt, NoSfd, Errored, Jabber}
@@ -77,9 +78,10 @@ records_below s node t = filter_map (record_at node) (events_below (events_at s)
 abbrev pub node_pcap : Script → ℕ → List ℕ
 node_pcap s node = pcap_text (records_below s node s.end)
 
--- a record that a run of fewer than 20,000,000 ticks can have: the frame of it has 64 to 1522 octets
+-- a record that a run can have: its ticks are below `most_ticks`, ten of them in a microsecond, and the frame of it has 64 to 1522
+-- octets
 pub record IsPcapRecord (r : PcapRecord) : Type 0 where
-  pub in_time : r.time < 2000000
+  pub in_time : 10 * r.time < most_ticks
   pub long : 60 ≤ length r.octets
   pub short : length r.octets ≤ 1518
 

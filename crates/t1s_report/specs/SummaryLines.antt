@@ -1,6 +1,8 @@
 -- The lines of the summary. Numbers are plain decimal.
-use Rattle.std.specs.Prelude.{ℕ, List, [], ◌∷◌, ◌++◌, map, filter_map, Option, None, Some, codes, decimal}
+use Rattle.std.specs.Prelude.{ℕ, ◌+◌, List, [], ◌∷◌, ◌++◌, map, filter_map, Option, None, Some, codes, decimal}
 use Rattle.std.specs.Option.{option_map}
+use Rattle.t1s_base.specs.Limits.{most_nodes}
+use Rattle.t1s_script.specs.Limits.{most_acts}
 use Rattle.t1s_script.specs.Script.{offer_number}
 use Rattle.t1s_script.specs.declared.script.Script.{Script}
 use Rattle.t1s_line.specs.declared.offers.Wait.{Wait}
@@ -48,6 +50,10 @@ numbered_wait s t number = option_map (λ wait. (number, wait)) (wait_below s t 
 -- so each offer of the script
 abbrev pub waits_below : Script → ℕ → List (ℕ × Wait)
 waits_below s t = filter_map (numbered_wait s t) (offers_of s)
+
+-- the most lines of a summary: when all were in step, and one for each node and for each offer
+abbrev pub most_summary_lines : ℕ
+most_summary_lines = 1 + most_nodes + most_acts
 
 -- the lines of the summary of the ticks below t: when all were in step, then what was counted at each node, the nodes
 -- ascending, and then what has become of each offer, the offers ascending

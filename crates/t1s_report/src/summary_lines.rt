@@ -5,7 +5,7 @@ ghost use Rattle.t1s_script.specs.Limits.{most_acts};
 ghost use Rattle.t1s_script.specs.declared.script.Script.{Script};
 ghost use Rattle.t1s_segment.specs.Stands.{Stands};
 ghost use Rattle.t1s_line.specs.World.{totals_below};
-ghost use Rattle.t1s_report.specs.SummaryLines.{settled_line, node_line, offer_line, waits_below, summary_lines_below};
+ghost use Rattle.t1s_report.specs.SummaryLines.{settled_line, node_line, offer_line, waits_below, most_summary_lines, summary_lines_below};
 
 use crate::fields::{clear, count, number, text};
 use t1s_base::{Line, MOST_NODES};
@@ -110,11 +110,11 @@ fn wait_at(seg: &Segment, k: u32) -> Option<(u16, Wait)>
 /// Replaces the content of the line by the k-th line from 0 of the summary of the ticks that were played: when all
 /// statuses were first OK, then what was counted at each node, the nodes ascending, and then what has become of each
 /// offer, the offers ascending. It answers false, with the line empty, exactly where there is no such line. A summary
-/// has at most 4113 lines.
+/// has at most 4129 lines.
 pub fn summary_line(out: &mut Line, seg: &Segment, k: u32) -> bool
     ensures answer { (s : Script) (t : ℕ) → Stands s t seg.now → result ≡ nat_lt k (length (summary_lines_below s t)) }
     ensures line { (s : Script) (t : ℕ) → Stands s t seg.now → out.new ≡ get_or (summary_lines_below s t) k [] }
-    ensures few { IsTrue result → k < 4113 }
+    ensures few { IsTrue result → k < most_summary_lines }
 {
     if k == 0 {
         settled_line(out, seg.settled());

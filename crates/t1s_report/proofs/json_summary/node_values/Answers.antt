@@ -1,4 +1,5 @@
 use Rattle.std.proofs.Common.{◌≡◌, sym, ap, ◌∙◌, map, arith}
+use Rattle.t1s_base.specs.Limits.{most_nodes}
 use Rattle.t1s_line.specs.World.{totals_below}
 use Rattle.t1s_report.specs.JsonSummary.{node_value}
 use Rattle.t1s_report.proofs.Ascending.{keyed_below}
@@ -24,6 +25,6 @@ loop-node-preserved c = elim c.match-totals.branch [
 
 pub returns : goal.returns
 returns c s t stands =
-    let last : c.loop-node.node ≡ 16 = omega arith in
+    let last : c.loop-node.node ≡ most_nodes = omega arith in
     let all : keyed_below number_of c.loop-node.node (totals_below s t) ≡ totals_below s t = rw last (totals_all_below s t stands.valid) in
     c.loop-node.invariant s t stands ∙ ap (map node_value) all

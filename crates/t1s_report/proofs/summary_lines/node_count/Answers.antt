@@ -1,5 +1,6 @@
 use Rattle.std.proofs.Common.{◌≡◌, true, false, length, sym, ap, ◌∙◌, arith}
 use Rattle.std.specs.Option.{is_some}
+use Rattle.t1s_base.specs.Limits.{most_nodes}
 use Rattle.t1s_line.specs.World.{totals_below}
 use Rattle.t1s_report.proofs.Ascending.{keyed_at, none_below, counts_one, counts_none}
 use Rattle.t1s_report.proofs.NodeTotals.{number_of, totals_ascend, totals_all_below}
@@ -35,5 +36,5 @@ loop-node-preserved c = elim c.if-is_some.branch [
 pub returns-clause-nodes : goal.returns-clause-nodes
 returns-clause-nodes c s t stands =
     let so_far = c.loop-node.invariant.counted s t stands in
-    let last : c.loop-node.node ≡ 16 = omega arith in
+    let last : c.loop-node.node ≡ most_nodes = omega arith in
     so_far ∙ ap length (rw last (totals_all_below s t stands.valid))

@@ -1,5 +1,6 @@
 use Rattle.std.proofs.Common.{◌≡◌, ◌≤◌, length, sym, ap, ◌∙◌, arith}
 use Rattle.std.proofs.lemmas.Option.{slice_get_past}
+use Rattle.t1s_base.specs.Limits.{most_nodes}
 use Rattle.t1s_line.specs.World.{totals_below}
 use Rattle.t1s_report.proofs.Ascending.{keyed_below, none_below, found_after, count_found, count_missed}
 use Rattle.t1s_report.proofs.NodeTotals.{number_of, totals_ascend, totals_all_below}
@@ -42,7 +43,7 @@ returns-then-nodes-k-clause-totals c s t stands =
 pub returns-clause-totals : goal.returns-clause-totals
 returns-clause-totals c s t stands =
     let so_far = c.loop-node.invariant.counted s t stands in
-    let last : c.loop-node.node ≡ 16 = omega arith in
+    let last : c.loop-node.node ≡ most_nodes = omega arith in
     let all : keyed_below number_of c.loop-node.node (totals_below s t) ≡ totals_below s t = rw last (totals_all_below s t stands.valid) in
     let few : length (totals_below s t) ≤ c.args.k = omega (arith, ap length all) in
     sym (slice_get_past (totals_below s t) c.args.k few)

@@ -46,7 +46,7 @@ module _ (s : Script) (node j : ℕ) (line : NodeLine) (found : slice_get s.node
 
 pub captures_hold_cuts : CapturesHoldCuts
 captures_hold_cuts s node j script is =
-    let none : NodeLine = record { no = 0; id = 0; place = 0; stub = 0; to = 0; start = 0; draws = None } in
+    let none : NodeLine = record { no = 0; ids = []; place = 0; stub = 0; to = 0; start = 0; draws = None } in
     let place = position-Some (λ (n : NodeLine). n.no == node) s.nodes j none is in
     let line : NodeLine = get_or s.nodes j none in
     let no : (get_or s.nodes j none).no ≡ node = eqb-true (get_or s.nodes j none).no node place.1 in

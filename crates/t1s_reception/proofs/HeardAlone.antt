@@ -177,5 +177,5 @@ module _ (s : Script) (i j : ℕ) (x : Sending) (sent : IsSending s i x) (alone 
 
 pub heard_alone_arrives : HeardAloneArrives
 heard_alone_arrives s i j x sent alone =
-    let none : NodeLine = record { no = 0; id = 0; place = 0; stub = 0; to = 0; start = 0; draws = None } in
+    let none : NodeLine = record { no = 0; ids = []; place = 0; stub = 0; to = 0; start = 0; draws = None } in
     arrives_in_time s i j x sent alone (get_or s.nodes j none) (slice_get-get_or s.nodes j none alone.here)

@@ -1,6 +1,6 @@
 -- The capture of what a node hears shows the pieces that arrive at it.
 use Rattle.std.proofs.Common.{◌≡◌, ℕ, ap, ◌∙◌}
-use Rattle.std.specs.Prelude.{◌==◌, slice_get, get_or, Some, None}
+use Rattle.std.specs.Prelude.{[], ◌==◌, slice_get, get_or, Some, None}
 use Rattle.std.proofs.lemmas.List.Quantifiers.{position-Some}
 use Rattle.std.proofs.lemmas.Option.{slice_get-get_or}
 use Rattle.t1s_script.specs.declared.script.NodeLine.{NodeLine}
@@ -21,6 +21,6 @@ shows_at s T node j line found is =
 
 pub captures_show_arrivals : CapturesShowArrivals
 captures_show_arrivals s T node j is =
-    let none : NodeLine = record { no = 0; id = 0; place = 0; stub = 0; to = 0; start = 0; draws = None } in
+    let none : NodeLine = record { no = 0; ids = []; place = 0; stub = 0; to = 0; start = 0; draws = None } in
     let there = (position-Some (λ (n : NodeLine). n.no == node) s.nodes j none is).0 in
     shows_at s T node j (get_or s.nodes j none) (slice_get-get_or s.nodes j none there) is

@@ -49,7 +49,7 @@ silent s j k there calm = rw (calm.unreached j there, calm.no_noise, calm.no_dri
 pub silence_heard : (s : Script) (node j t n : ℕ) → position_of s node ≡ Some j → ((k : ℕ) → t ≤ k → k < t + n → IsCalm s k)
     → ticks_heard s node (t + n) ≡ ticks_heard s node t ++ quiet_ticks n
 silence_heard s node j t n at calm =
-    let there : j < length s.nodes = (position-Some (λ (x : NodeLine). x.no == node) s.nodes j (record { no = 0; id = 0; place = 0; stub = 0; to = 0; start = 0; draws = None }) at).0 in
+    let there : j < length s.nodes = (position-Some (λ (x : NodeLine). x.no == node) s.nodes j (record { no = 0; ids = []; place = 0; stub = 0; to = 0; start = 0; draws = None }) at).0 in
     same_added (λ u. option_to_list (heard_by s node u)) t (Nothing, false) n (λ k from till. rw (at, silent s j k there (calm k from till)) refl)
 
 -- ticks add nothing to what a node hears that the script doesn't have

@@ -16,7 +16,7 @@ use Rattle.t1s_cli.specs.TextOutcome.{TextOutcome}
 use Rattle.t1s_cli.specs.declared.status.Status.{Status}
 use Rattle.t1s_cli.specs.declared.status.Status.TheVariants.{Done, Refused, Usage, ReadFault, Memory}
 
--- a node of a valid script has a number below 16
+-- a node of a valid script has a number below `most_nodes`
 pub node_below : (s : Script) (node : ℕ) → IsScript s → has_node s node ≡ true → node < most_nodes
 node_below s node valid has =
     let (k, line, within, at, is) = Any-from_list_any (λ (n : NodeLine). n.no == node) s.nodes has in

@@ -16,11 +16,15 @@ abbrev pub numbers_of : GeneratedTask → ScriptNumbers
 numbers_of (Gen n) = n
 numbers_of (Load n) = n
 
+-- the most nodes of a script that is made, fewer than a segment may have
+abbrev pub most_nodes_made : ℕ
+most_nodes_made = 16
+
 -- the ranges of the numbers: a seed, nodes and frames
 pub record AreInRange (n : ScriptNumbers) : Type 0 where
   pub seed : n.seed ≤ 4294967295
   pub some : 1 ≤ n.nodes
-  pub nodes : n.nodes ≤ 16
+  pub nodes : n.nodes ≤ most_nodes_made
   pub frames : n.frames ≤ 400
 
 -- the text of the script that they make

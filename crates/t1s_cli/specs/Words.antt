@@ -13,17 +13,13 @@ use Rattle.t1s_cli.specs.declared.commands.GeneratedTask.{GeneratedTask}
 use Rattle.t1s_cli.specs.declared.commands.GeneratedTask.TheVariants.{Gen, Load}
 use Rattle.t1s_cli.specs.declared.commands.ScriptNumbers.{ScriptNumbers}
 
--- the greatest number of a node that `pcap` takes, also where no script can have such a node yet
-abbrev pub last_pcap_node : ℕ
-last_pcap_node = 31
-
--- the words ask for this task with a script; the number of a node is 0 to 15, and 0 to 31 for `pcap`
+-- the words ask for this task with a script; the number of a node is 0 to `last_node`
 abbrev pub AreTask : List (String Global) → ScriptTask → Type 0
 AreTask words Run = map string_bytes words ≡ codes "run" ∷ []
 AreTask words Check = map string_bytes words ≡ codes "check" ∷ []
 AreTask words Json = map string_bytes words ≡ codes "json" ∷ []
 AreTask words (Capture node) = (node ≤ last_node) × (map string_bytes words ≡ codes "capture" ∷ decimal node ∷ [])
-AreTask words (Pcap node) = (node ≤ last_pcap_node) × (map string_bytes words ≡ codes "pcap" ∷ decimal node ∷ [])
+AreTask words (Pcap node) = (node ≤ last_node) × (map string_bytes words ≡ codes "pcap" ∷ decimal node ∷ [])
 
 -- the words ask for this task with a capture
 abbrev pub AreCaptureTask : List (String Global) → CaptureTask → Type 0

@@ -1,5 +1,6 @@
 // What the words of the command line ask for.
 ghost use Rattle.std.specs.Prelude.{◌≡◌, ◌↔◌, ◌≤◌, ℕ, Some, decimal};
+ghost use Rattle.t1s_base.specs.Limits.{last_node};
 ghost use Rattle.t1s_cli.specs.declared.commands.ScriptTask.{ScriptTask};
 ghost use Rattle.t1s_cli.specs.declared.commands.CaptureTask.{CaptureTask};
 ghost use Rattle.t1s_cli.specs.declared.commands.GeneratedTask.{GeneratedTask};
@@ -61,20 +62,17 @@ pub(crate) enum Command {
 
 /// The greatest seed of a script that is made.
 const LAST_SEED: u64 = 4_294_967_295;
-/// The most nodes of it.
+/// The most nodes of it, fewer than a segment may have.
 const MOST_NODES_MADE: u64 = 16;
 /// The most frames of it.
 const MOST_FRAMES_MADE: u64 = 400;
-/// The highest number of a node that `pcap` takes.
-const LAST_PCAP_NODE: u8 = 31;
 
-/// The number of a node that a word writes: 0 to this highest one.
-fn node_number(word: &[u8], last: u8) -> Option<u8>
-    requires { last ≤ 31 }
-    ensures { (node : ℕ) → (result ≡ Some node) ↔ ((node ≤ last) × (word.now ≡ decimal node)) }
+/// The number of a node that a word writes: 0 to [`LAST_NODE`].
+fn node_number(word: &[u8]) -> Option<u8>
+    ensures { (node : ℕ) → (result ≡ Some node) ↔ ((node ≤ last_node) × (word.now ≡ decimal node)) }
 {
     match read_number(word) {
-        Some(number) if number <= u64::from(last) => Some(number as u8),
+        Some(number) if number <= u64::from(LAST_NODE) => Some(number as u8),
         _ => None,
     }
 }
@@ -142,11 +140,11 @@ pub(crate) fn command_of(words: &[String]) -> Option<Command>
             Some(Command::OnCapture(CaptureTask::Decode))
         }
         [word, number] if word.as_bytes() == b"capture".as_slice() => {
-            let node = node_number(number.as_bytes(), LAST_NODE)?;
+            let node = node_number(number.as_bytes())?;
             Some(Command::OnScript(ScriptTask::Capture(node)))
         }
         [word, number] if word.as_bytes() == b"pcap".as_slice() => {
-            let node = node_number(number.as_bytes(), LAST_PCAP_NODE)?;
+            let node = node_number(number.as_bytes())?;
             Some(Command::OnScript(ScriptTask::Pcap(node)))
         }
         _ => Some(Command::OnNumbers(generated_task_of(words)?)),

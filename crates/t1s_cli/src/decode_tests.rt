@@ -240,7 +240,7 @@ fn first_offences_in_the_header_are_refused(rt: HostRuntime) -> Result<(), Fail>
             (b"", b"refused 0 Truncated\n"),
             (b"T1SD", b"refused 3 Magic\n"),
             (b"T1SC\x02", b"refused 4 Version\n"),
-            (b"T1SC\x01\x10", b"refused 5 NodeByte\n"),
+            (b"T1SC\x01\x20", b"refused 5 NodeByte\n"),
         ],
     )
 }

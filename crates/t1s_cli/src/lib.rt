@@ -44,6 +44,8 @@ mod fault_tests;
 #[cfg(test)]
 mod generated_tests;
 #[cfg(test)]
+mod ids_tests;
+#[cfg(test)]
 mod json_tests;
 #[cfg(test)]
 mod noise_rows;
@@ -61,3 +63,5 @@ mod stream_tests;
 mod stub_tests;
 #[cfg(test)]
 mod tests;
+#[cfg(test)]
+mod wide_tests;

@@ -40,7 +40,7 @@ use t1s_base::{Sink, Source};
 /// With the one word `json` it reads a script in the same way, and writes the summary of the script's run as one JSON
 /// object and LF, by one `write` call.
 ///
-/// With the word `capture` and the number of a node it reads a script in the same way, and writes the capture of
+/// With the word `capture` and a number of a node, 0 to 31, it reads a script in the same way, and writes the capture of
 /// what that node hears in the script's run: the header, at most one text in each tick, and the last octets, each by
 /// one `write` call. Where the script has no such node it writes the refusal `UnknownNode` of line 0.
 ///

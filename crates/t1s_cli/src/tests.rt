@@ -150,7 +150,7 @@ fn other_words_are_usage(rt: HostRuntime) -> Result<(), Fail> {
         &["json", "json"],
         &["decode", "0"],
         &["capture"],
-        &["capture", "16"],
+        &["capture", "32"],
         &["capture", "01"],
         &["capture", "-1"],
         &["capture", "2", "2"],

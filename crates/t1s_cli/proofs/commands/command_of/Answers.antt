@@ -2,6 +2,7 @@ use Rattle.std.proofs.Common.{◌≡◌, ℕ, ◌<◌, ◌≤◌, List, [], ◌�
 use Rattle.std.specs.Option.{option_map}
 use Rattle.std.specs.String.{string_bytes}
 use Rattle.std.specs.Prelude.{◌↔◌}
+use Rattle.t1s_base.specs.Limits.{last_node}
 use Rattle.t1s_cli.specs.declared.commands.Command.{Command}
 use Rattle.t1s_cli.specs.declared.commands.Command.TheVariants.{OnScript, OnCapture}
 use Rattle.t1s_cli.specs.declared.commands.ScriptTask.{ScriptTask}
@@ -47,7 +48,7 @@ second e = cc
 
 -- the number of the node is the one that the second word writes
 capture_row : (words : List (String Global)) (number : List ℕ) (node : ℕ) → map string_bytes words ≡ codes "capture" ∷ number ∷ [] →
-    ((n : ℕ) → (◌≡◌ {A = Option ℕ} (Some node) (Some n)) ↔ ((n ≤ 15) × (number ≡ decimal n))) →
+    ((n : ℕ) → (◌≡◌ {A = Option ℕ} (Some node) (Some n)) ↔ ((n ≤ last_node) × (number ≡ decimal n))) →
     (task : ScriptTask) → (◌≡◌ {A = Option Command} (Some (OnScript (Capture node))) (Some (OnScript task))) ↔ AreTask words task
 capture_row words number node is reads Run = (λ e. absurd cc, λ h. absurd (let z = sym is ∙ h in cc))
 capture_row words number node is reads Check = (λ e. absurd cc, λ h. absurd (let z = sym is ∙ h in cc))
@@ -64,7 +65,7 @@ capture_row words number node is reads (Capture n) = (
 capture_row words number node is reads (Pcap n) = (λ e. absurd cc, λ h. absurd (let z = sym is ∙ h.1 in cc))
 
 pcap_row : (words : List (String Global)) (number : List ℕ) (node : ℕ) → map string_bytes words ≡ codes "pcap" ∷ number ∷ [] →
-    ((n : ℕ) → (◌≡◌ {A = Option ℕ} (Some node) (Some n)) ↔ ((n ≤ 31) × (number ≡ decimal n))) →
+    ((n : ℕ) → (◌≡◌ {A = Option ℕ} (Some node) (Some n)) ↔ ((n ≤ last_node) × (number ≡ decimal n))) →
     (task : ScriptTask) → (◌≡◌ {A = Option Command} (Some (OnScript (Pcap node))) (Some (OnScript task))) ↔ AreTask words task
 pcap_row words number node is reads Run = (λ e. absurd cc, λ h. absurd (let z = sym is ∙ h in cc))
 pcap_row words number node is reads Check = (λ e. absurd cc, λ h. absurd (let z = sym is ∙ h in cc))

@@ -1,7 +1,7 @@
 use Rattle.std.proofs.Common.{◌≡◌, ◌≤◌, ℕ, Option, Some, decimal, List, subst, refl, arith}
 use Rattle.std.specs.Prelude.{◌↔◌}
 use Rattle.t1s_cli.specs.declared.commands.ScriptNumbers.{ScriptNumbers}
-use Rattle.t1s_cli.specs.Generated.{AreInRange}
+use Rattle.t1s_cli.specs.Generated.{AreInRange, most_nodes_made}
 use Rattle.t1s_cli.proofs.commands.script_numbers.Goals as goal
 
 pub overflow_cast-result : goal.overflow_cast-result
@@ -14,7 +14,7 @@ overflow_cast-result-2 c = omega (arith, ((c.number_in-3.ensures c.in_ok-frames.
 abbrev Reads : List ℕ → ℕ → ℕ → ℕ → Type 0
 Reads word least most found = (n : ℕ) → (◌≡◌ {A = Option ℕ} (Some found) (Some n)) ↔ ((least ≤ n) × (n ≤ most) × (word ≡ decimal n))
 
-numbers_row : (a b d : List ℕ) (seed nodes frames : ℕ) → Reads a 0 4294967295 seed → Reads b 1 16 nodes → Reads d 0 400 frames → (n : ScriptNumbers) →
+numbers_row : (a b d : List ℕ) (seed nodes frames : ℕ) → Reads a 0 4294967295 seed → Reads b 1 most_nodes_made nodes → Reads d 0 400 frames → (n : ScriptNumbers) →
     (◌≡◌ {A = Option ScriptNumbers} (Some record { seed = seed; nodes = nodes; frames = frames }) (Some n)) ↔
     (AreInRange n × (a ≡ decimal n.seed) × (b ≡ decimal n.nodes) × (d ≡ decimal n.frames))
 numbers_row a b d seed nodes frames first second third n = (

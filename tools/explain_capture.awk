@@ -77,7 +77,7 @@ function expected() {
 
 function header() {
   if (place < 4) return "54 31 53 43 (T1SC), with which a capture begins" other_text()
-  return place == 4 ? "01, the version" : "the number of the node, 00 to 0f"
+  return place == 4 ? "01, the version" : "the number of the node, 00 to 1f"
 }
 
 # What another text looks like that was given in place of a capture.

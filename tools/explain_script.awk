@@ -10,7 +10,10 @@ FNR == NR {
 
 { lines = FNR }
 
-FNR == 1 { version = substr($0, 5) }
+FNR == 1 {
+  version = substr($0, 5)
+  set_limits()
+}
 
 (place == 0 || FNR <= place) && !/^#/ { note_line() }
 
@@ -23,6 +26,11 @@ FNR == place {
 END {
   if (place > 0) show_line()
   print "  " sentence()
+}
+
+# A range has another end since version 3, behind a slash.
+function set_limits(    word) {
+  for (word in fields_of) gsub(version + 0 >= 3 ? "[0-9]+/" : "/[0-9]+", "", fields_of[word])
 }
 
 # Keeps where each word stood before, which nodes there are, and the last timed line.
@@ -173,8 +181,8 @@ function blank() {
 }
 
 function first_line() {
-  if (lines == 0) return "the input is empty; the first line of a script is `t1s 1` or `t1s 2`"
-  return "the first line of a script is `t1s 1` or `t1s 2`, exactly so" carriage_return()
+  if (lines == 0) return "the input is empty; the first line of a script is `t1s 1`, `t1s 2` or `t1s 3`"
+  return "the first line of a script is `t1s 1`, `t1s 2` or `t1s 3`, exactly so" carriage_return()
 }
 
 function unknown_word() {
@@ -214,11 +222,13 @@ function order() {
 }
 
 function too_many() {
+  if (field[1] == "also") return "a node has at most three `also` lines, and three of node " field[2] " stand above"
   if (field[1] == "draw") return "a node has at most 64 `draw` lines, and 64 of node " field[2] " stand above"
   return "a script has at most 4096 timed lines, and as many stand above"
 }
 
 function twice(    wanted) {
+  if (field[1] == "also") return "node " field[2] " has the ID " field[3] " already"
   split(fields_of[field[1]], wanted, " ")
   if (wanted[1] ~ /^NO=/) return quoted(field[1]) " may stand once for a node, and that of node " field[2] " stands in line " first_of[field[1], field[2]] " already"
   return quoted(field[1]) " may stand once, and stands in line " first_at[field[1]] " already"

@@ -74,7 +74,7 @@ $(commands | while read -r word; do usage_of "$word"; done | sed 's/^/t1s /' | r
 t1s \\-\\-version
 .fi
 .SH DESCRIPTION
-A 10BASE\\-T1S segment is one pair that up to 16 nodes share at 10 Mb/s. They take turns by PLCA. \\fBt1s\\fR
+A 10BASE\\-T1S segment is one pair that up to 32 nodes share at 10 Mb/s. They take turns by PLCA. \\fBt1s\\fR
 plays a segment that a script describes, bit time by bit time, and reads and writes captures of what a node hears. A bit time of
 100 ns is called a tick.
 .PP
@@ -149,7 +149,7 @@ zsh_arguments() {
         case $argument in
         PREFIX) printf " '1:folder:_directories'" ;;
         '[FROM' | 'UNTIL]') printf " ':a tick:'" ;;
-        '[K]') printf " ':the number of a node, 0 to 15:'" ;;
+        '[K]') printf " ':the number of a node, 0 to 31:'" ;;
         '[FILE]') printf " ':file:_files'" ;;
         *COMMAND*) printf " '1:command:(%s)'" "$(commands | tr '\n' ' ')" ;;
         *) printf " ':%s:'" "$(meaning_of "$argument")" ;;

@@ -6,7 +6,7 @@
 
 # Whether $1 is a tick.
 is_tick() {
-    is_number "$1" 0 2000000
+    is_number "$1" 0 20000000
 }
 
 # Whether $1 is a tick and $2 a later one.

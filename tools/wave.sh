@@ -10,10 +10,10 @@ read_wave_words() {
     words=run
     reads=script
     [ $# -le 2 ] || refuse_words "\`wave\` takes the number of a node and a file, and \`$(shown "$3")\` is a word too many" wave
-    if [ $# -eq 2 ] && ! is_number "$1" 0 15; then
-        refuse_words "\`wave K\` takes the number of a node, 0 to 15, and \`$(shown "$1")\` is none" wave
+    if [ $# -eq 2 ] && ! is_number "$1" 0 31; then
+        refuse_words "\`wave K\` takes the number of a node, 0 to 31, and \`$(shown "$1")\` is none" wave
     fi
-    if [ $# -ge 1 ] && is_number "$1" 0 15; then
+    if [ $# -ge 1 ] && is_number "$1" 0 31; then
         node=$1
         shift
     fi

@@ -72,14 +72,14 @@ is_number() {
     [ "$1" -ge "$2" ] && [ "$1" -le "$3" ]
 }
 
-# What an argument such as 'K=0-15' is, with its range.
+# What an argument such as 'K=0-31' is, with its range.
 meaning_of() {
     rows arguments.txt | awk -F '|' -v argument="$1" '
         BEGIN { split(argument, part, "[=-]") }
         $1 == part[1] { print $2 ", " part[2] " to " part[3] }'
 }
 
-# Holds the word $2 of the command $1 against its argument $3, as 'K=0-15'.
+# Holds the word $2 of the command $1 against its argument $3, as 'K=0-31'.
 check_argument() {
     name=${3%%=*}
     range=${3#*=}

@@ -94,6 +94,11 @@ script 't1s 2/node 0 0 0/stab 0 5/end 9' 'refused 3 UnknownWord' '`stab` is no w
 script 't1s 2/node 0 0 0/stub 0 32/end 9' 'refused 3 OutOfRange' '|        ^^' 'U of `stub` is 0 to 31, and `32` is outside'
 script 't1s 2/node 0 0 0/stub 0 5/stub 0 5/end 9' 'refused 4 Twice' '`stub` may stand once for a node, and that of node 0 stands in line 3 already'
 script 't1s 2/node 0 0 0/stub 9 5/end 9' 'refused 3 UnknownNode' '|      ^' 'no `node` line of node 9 stands above'
+script 't1s 3/node 0 0 0/also 0 2/also 0 2/end 9' 'refused 4 Twice' 'node 0 has the ID 2 already'
+script 't1s 3/node 0 0 0/also 0 1/also 0 2/also 0 3/also 0 4/end 9' 'refused 6 TooMany' '|      ^' 'at most three `also` lines, and three of node 0 stand above'
+script 't1s 2/node 0 0 0/also 0 2/end 9' 'refused 3 UnknownWord' '`also` is a word since version 3, and line 1 says that the script is of version 2'
+script 't1s 3/node 32 0 0/end 9' 'refused 2 OutOfRange' 'NO of `node` is 0 to 31, and `32` is outside'
+script 't1s 3/node 0 0 0/end 20000001' 'refused 3 OutOfRange' 'T of `end` is 1 to 20000000, and `20000001` is outside'
 draws=$(printf '/draw 0 7%.0s' $(seq 65))
 script "t1s 1/node 0 0 0$draws/end 9" 'refused 67 TooMany' '|      ^' 'at most 64 `draw` lines, and 64 of node 0 stand above'
 fills=$(printf '/fill 5 0 60 00%.0s' $(seq 4097))
@@ -101,7 +106,7 @@ script "t1s 1/node 0 0 0$fills/end 9" 'refused 4099 TooMany' 'at most 4096 timed
 script 't1s 1/end 10' 'refused 2 NoNode' 'at least one `node` line'
 script 't1s 1/node 0 0 0' 'refused 3 NoEnd' 'a script ends with a line `end T`'
 script 't1s 1/node 0 0 0/end 9/end 9' 'refused 4 AfterEnd' 'nothing but lines that begin with # may stand behind `end`, which is line 3'
-script 't1s 3/node 0 0 0/end 9' 'refused 1 FirstLine' 'the first line of a script is `t1s 1` or `t1s 2`'
+script 't1s 4/node 0 0 0/end 9' 'refused 1 FirstLine' 'the first line of a script is `t1s 1`, `t1s 2` or `t1s 3`'
 printf 't1s 1\r\nnode 0 0 0\r\nend 9\r\n' >"$room/input"
 row run 'refused 1 FirstLine' 'carriage return'
 printf 't1s 1\nnode 0 0 0\r\nend 9\r\n' >"$room/input"
@@ -128,8 +133,8 @@ capture '18 18 04 04 0B 0B 0B 09 16 16 16 1D 17 16 1C 1B 0D 1E' 'refused 23 Plac
 row decode 'refused 4102 BurstLong' '18 18 [18]' 'at most 4096 J stand in a row'
 printf 'T1SC\002' >"$room/input"
 row decode 'refused 4 Version' 'expected: 01, the version'
-printf 'T1SC\001\020' >"$room/input"
-row decode 'refused 5 NodeByte' '00 to 0f'
+printf 'T1SC\001\040' >"$room/input"
+row decode 'refused 5 NodeByte' '00 to 1f'
 cp examples/three_nodes/script.t1s "$room/input"
 row decode 'refused 0 Magic' '54 31 53 43 (T1SC)' 'this looks like a script'
 printf 'refused 3 Form\n' >"$room/input"

@@ -22,12 +22,12 @@ refused '`frobnicate` is no command' frobnicate
 refused '`--versoin` is no command; the nearest is `--version`' --versoin
 refused '`--version` takes no further word' --version run
 refused '`capture` lacks K' capture
-refused '`capture K` takes the number of a node, 0 to 15, and `16` is none' capture 16
-refused '`capture K` takes the number of a node, 0 to 15, and `01` is none' capture 01
-refused '`capture K` takes the number of a node, 0 to 15, and `node.t1s` is none' capture node.t1s
+refused '`capture K` takes the number of a node, 0 to 31, and `32` is none' capture 32
+refused '`capture K` takes the number of a node, 0 to 31, and `01` is none' capture 01
+refused '`capture K` takes the number of a node, 0 to 31, and `node.t1s` is none' capture node.t1s
 refused '`capture` takes one file, and `more` is a word too many' capture 2 script.t1s more
 refused '`run` takes one file, and `b` is a word too many' run a b
-refused '`wave K` takes the number of a node, 0 to 15, and `16` is none' wave 16 script.t1s
+refused '`wave K` takes the number of a node, 0 to 31, and `32` is none' wave 32 script.t1s
 refused '`wave` takes the number of a node and a file, and `more` is a word too many' wave 2 script.t1s more
 refused '`gen` lacks FRAMES, a number of frames, 0 to 400' gen 1 2
 refused '`gen NODES` takes a number of nodes, 1 to 16, and `0` is none' gen 1 0 0
@@ -55,7 +55,7 @@ for word in --help -h; do
   so "$word is help" all 'ended_with 0' 'said_nothing' 'cmp -s "$room/text" "$room/help"'
 done
 call capture 2 --help
-so "--help behind a command is its help" all 'ended_with 0' 'grep -q "0 to 15" "$room/text"'
+so "--help behind a command is its help" all 'ended_with 0' 'grep -q "0 to 31" "$room/text"'
 call --version
 so "--version is written" all 'ended_with 0' 'said_nothing' 'grep -q "^t1s [0-9]" "$room/text"'
 for word in help --version; do

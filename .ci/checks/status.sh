@@ -71,7 +71,7 @@ run nod <$script
 row "an unknown word" 2 ""
 run run run <$script
 row "a word too many" 2 ""
-run capture 16 <$script
+run capture 32 <$script
 row "a number out of range" 2 ""
 run pcap 32 <$script
 row "another one" 2 ""

@@ -64,7 +64,7 @@ label_after : (before class : List ℕ) (x y : ℕ) (words : List ℕ) → label
 label_after before class x y words = simp append_assoc refl
 
 note : List ℕ
-note = codes "ticks of 100 ns; +K is offer K, taken into the queue"
+note = codes "ticks of 100 ns; +K is offer K, taken into the queue; signs of one tick stand side by side"
 
 box_after : (before class : List ℕ) (place size : ℕ × ℕ) → box_text before class place size ≡ before ++ box_text [] class place size
 box_after before class place size = simp append_assoc refl

@@ -139,7 +139,7 @@ shown_characters line h = all-take is_character (min (length line) 256) line (pl
 
 pub shape_content : (before : List ℕ) (w : Window) (line : List ℕ) (shape : Shape) → IsContent before → is_plain line ≡ true → IsContent (shape_text before w line shape)
 shape_content before w line (Bar node part start stop) b plain = bar_content before w node part start stop b
-shape_content before w line (Mark event) b plain = mark_content before w event.what (column_x w event.tick) (lane_y event.node) b
+shape_content before w line (Mark event beside) b plain = mark_content before w event.what (column_x w event.tick + 36 * beside) (lane_y event.node) b
 shape_content before w line Settled b plain = words_content before (codes "note") 70 (summary_y w) (shown line) b refl (shown_characters line plain)
 shape_content before w line (Totals node) b plain =
     words_content before (totals_class line) 70 (summary_y w + 16 * (1 + node)) (shown line) b

@@ -6,6 +6,7 @@ pub mod Elements
 pub mod ShapeTexts
 pub mod Calls
 pub mod Pulses
+pub mod Signs
 pub mod Pieces
 pub mod Picture
 pub mod Dump

@@ -28,7 +28,7 @@ with_paper w = box_text (head w) (codes "paper") (0, 0) (width w, height w)
 
 -- then a note
 abbrev pub head_text : Window → List ℕ
-head_text w = label_text (with_paper w) (codes "note") 70 14 (codes "ticks of 100 ns; +K is offer K, taken into the queue")
+head_text w = label_text (with_paper w) (codes "note") 70 14 (codes "ticks of 100 ns; +K is offer K, taken into the queue; signs of one tick stand side by side")
 
 -- then the lanes, the ticks and the legend
 abbrev pub with_lanes : Window → List ℕ

@@ -2,6 +2,8 @@
 use Rattle.std.specs.Prelude.{ℕ, ◌&&◌, ◌||◌, ◌==◌, Bool, true, false, not, List, replicate, nat_lt, get_or, slice_set, Option, Some, None, Result, Ok, Err, if◌then◌else◌}
 use Rattle.t1s_drawing.specs.Shapes.{bar, mark, turn_of}
 use Rattle.t1s_drawing.specs.Pulses.{no_pulses, pulses_left, risen}
+use Rattle.t1s_drawing.specs.Signs.{beside, no_signs, signs_left, with_sign}
+use Rattle.t1s_drawing.specs.declared.signs.Signs.{Signs}
 use Rattle.t1s_drawing.specs.declared.report.Event.{Event}
 use Rattle.t1s_drawing.specs.declared.report.Happening.{Happening}
 use Rattle.t1s_drawing.specs.declared.report.Happening.TheVariants.{Hears}
@@ -17,9 +19,9 @@ use Rattle.t1s_drawing.specs.declared.progress.Reason.TheVariants.{Order, Node}
 use Rattle.t1s_drawing.specs.declared.progress.Told.{Told}
 use Rattle.t1s_drawing.specs.declared.window.Window.{Window}
 
--- nothing was read, nobody drives, and no node has a pulse
+-- nothing was read, nobody drives, and no node has a pulse or a sign
 abbrev pub at_start : Progress
-at_start = record { driven = replicate 32 None; pulses = no_pulses; tick = 0; in_summary = false }
+at_start = record { driven = replicate 32 None; pulses = no_pulses; signs = no_signs; tick = 0; in_summary = false }
 
 -- what a node drives
 abbrev pub drive_at : Progress → ℕ → Option Drive
@@ -38,9 +40,17 @@ opened driven event None = driven
 abbrev pub turned : Progress → Event → Progress
 turned p event = record p { driven = opened p.driven event (turn_of event.what) }
 
+-- the signs that stand in the tick of the event, before it
+abbrev pub signs_before : Progress → Event → Signs
+signs_before p event = signs_left p.signs (nat_lt p.tick event.tick)
+
 -- how far the report has come after an event
 abbrev pub after_event : Progress → Event → Progress
-after_event p event = record (turned p event) { tick = event.tick; pulses = risen (pulses_left p.pulses (nat_lt p.tick event.tick)) event }
+after_event p event = record (turned p event) {
+  tick = event.tick;
+  pulses = risen (pulses_left p.pulses (nat_lt p.tick event.tick)) event;
+  signs = with_sign (signs_before p event) event;
+}
 
 -- the bar that ends at the event
 abbrev pub ended_bar : Window → Progress → Event → Option (Option Part) → Option Shape
@@ -77,7 +87,7 @@ event_step w p event =
     if p.in_summary || nat_lt event.tick p.tick then Err Order
     else if not (is_lane w event.node) then Err Node
     else if not (has_wire w event) then Err Node
-    else Ok (after_event p event, record { bar = told_bar w p event; mark = mark w event; event = Some event; before = p })
+    else Ok (after_event p event, record { bar = told_bar w p event; mark = mark w event (beside (signs_before p event) event); event = Some event; before = p })
 
 -- what a line gives, and how far the report has come after it
 abbrev pub step : Window → Progress → ReportLine → Stepped

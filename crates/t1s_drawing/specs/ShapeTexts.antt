@@ -75,8 +75,9 @@ mark_of before w Quiet x y = before
 mark_of before w (Leave n) x y = before
 mark_of before w (Hears heard) x y = before
 
-abbrev pub mark_text : List ℕ → Window → Event → List ℕ
-mark_text before w event = mark_of before w event.what (column_x w event.tick) (lane_y event.node)
+-- a sign has 36 ticks of room, and the others of its tick stand before it
+abbrev pub mark_text : List ℕ → Window → Event → ℕ → List ℕ
+mark_text before w event beside = mark_of before w event.what (column_x w event.tick + 36 * beside) (lane_y event.node)
 
 -- ---- lines of the summary
 
@@ -122,7 +123,7 @@ legend_text before w row =
 -- the text of a shape, which the line of the report gives
 abbrev pub shape_text : List ℕ → Window → List ℕ → Shape → List ℕ
 shape_text before w line (Bar node part start stop) = bar_text before w node part start stop
-shape_text before w line (Mark event) = mark_text before w event
+shape_text before w line (Mark event beside) = mark_text before w event beside
 shape_text before w line Settled = label_text before (codes "note") 70 (summary_y w) (shown line)
 shape_text before w line (Totals node) = label_text before (totals_class line) 70 (summary_y w + 16 * (1 + node)) (shown line)
 shape_text before w line (Lane node) = lane_text before w node

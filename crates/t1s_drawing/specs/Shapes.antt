@@ -37,6 +37,6 @@ has_mark Quiet = false
 has_mark (Hears heard) = false
 has_mark _ = true
 
--- the mark of an event in the window
-abbrev pub mark : Window → Event → Option Shape
-mark w event = if has_mark event.what && nat_le w.from event.tick && nat_lt event.tick w.until then Some (Mark event) else None
+-- the mark of an event in the window, beside as many others
+abbrev pub mark : Window → Event → ℕ → Option Shape
+mark w event beside = if has_mark event.what && nat_le w.from event.tick && nat_lt event.tick w.until then Some (Mark event beside) else None

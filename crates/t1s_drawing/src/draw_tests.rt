@@ -48,6 +48,37 @@ fn an_input_that_is_no_report_is_refused_at_its_line(rt: HostRuntime) -> Result<
 }
 
 #[test]
+fn signs_of_one_tick_stand_side_by_side(rt: HostRuntime) -> Result<(), Fail> {
+    let table: [(&[u8], &[u8]); 5] = [
+        (
+            b"10 taken 0 1\n",
+            b" x='80' y='61'>+1</text>\nrefused 2 End\n",
+        ),
+        (
+            b"10 taken 0 1\n10 full 0 2\n",
+            b" x='116' y='61'>full 2</text>\nrefused 3 End\n",
+        ),
+        (
+            b"10 taken 0 1\n10 beacon 0\n10 status 0 ok\n",
+            b" x='116' y='61'>ok</text>\nrefused 4 End\n",
+        ),
+        (
+            b"10 taken 0 1\n10 taken 1 2\n",
+            b" x='80' y='109'>+2</text>\nrefused 3 End\n",
+        ),
+        (
+            b"10 taken 0 1\n11 taken 0 2\n",
+            b" x='81' y='61'>+2</text>\nrefused 3 End\n",
+        ),
+    ];
+    for (report, line) in table {
+        let (_, written) = drawn(&rt, &WORDS, report, (&[], &[]))?;
+        assert_eq!(rt; ends_with(written.as_slice(), line), true);
+    }
+    Ok(())
+}
+
+#[test]
 fn faults_end_a_call_at_once(rt: HostRuntime) -> Result<(), Fail> {
     let report = b"10 beacon 0\nsettled never\n";
     let (status, written) = drawn(&rt, &WORDS, report, (&[], &[]))?;

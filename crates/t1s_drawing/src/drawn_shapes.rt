@@ -12,6 +12,9 @@ use t1s_waveform::{number, text};
 /// Where the first tick of the window stands.
 pub(crate) const LEFT: u64 = 70;
 
+/// How wide a sign may be where others stand beside it.
+const SIGN_ROOM: u64 = 36;
+
 /// Where a tick stands: each one is one wide.
 fn column_x(w: &Window, tick: u32) -> u64
     ensures value { result ≡ column_x w.now tick }
@@ -124,13 +127,13 @@ fn put_bar(out: &mut Line, w: &Window, node: u32, part: Part, start: u32, stop: 
     }
 }
 
-/// A mark of an event.
-fn put_mark(out: &mut Line, w: &Window, event: Event)
+/// A mark of an event, beside as many others.
+fn put_mark(out: &mut Line, w: &Window, event: Event, beside: u8)
     requires { length out.old ≤ 1000 }
-    ensures value { out.new ≡ mark_text out.old w.now event }
+    ensures value { out.new ≡ mark_text out.old w.now event beside }
     ensures len { length out.new ≤ length out.old + 800 }
 {
-    let x = column_x(w, event.tick);
+    let x = column_x(w, event.tick) + SIGN_ROOM * u64::from(beside);
     let y = lane_y(event.node);
     match event.what {
         Happening::Taken(n) => numbered(out, b"taken", x, y + 11, b"+", u64::from(n)),
@@ -257,7 +260,7 @@ pub(crate) fn put_shape(out: &mut Line, w: &Window, line: &[u8], shape: Shape)
             start,
             stop,
         } => put_bar(out, w, node, part, start, stop),
-        Shape::Mark(event) => put_mark(out, w, event),
+        Shape::Mark { event, beside } => put_mark(out, w, event, beside),
         Shape::Settled => label(out, b"note", LEFT, summary_y(w), shown(line)),
         Shape::Totals(node) => label(
             out,

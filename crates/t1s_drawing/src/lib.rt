@@ -11,7 +11,7 @@
 //! the bars in `specs/BarLaws.antt`, that of dumps in `specs/DumpLaws.antt`.
 //!
 //! It takes no memory: a report is drawn as it is read, and what is kept is a line of at most 4096 octets and, for each of
-//! 32 nodes at most, what it drives and since when, and whether it has a pulse.
+//! 32 nodes at most, what it drives and since when, whether it has a pulse, and how many signs stand at it in the latest tick.
 #![tactic(auto)]
 
 mod drawing;
@@ -25,6 +25,7 @@ mod progress;
 mod pulses;
 mod report;
 mod shapes;
+mod signs;
 mod status;
 mod texts;
 mod window;

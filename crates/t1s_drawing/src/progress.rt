@@ -5,6 +5,7 @@ ghost use Rattle.t1s_drawing.specs.Progress.{at_start, drive_from, turned, event
 use crate::pulses::Pulses;
 use crate::report::{Event, Happening, ReportLine};
 use crate::shapes::{Drive, Part, Shape, bar, mark, turn_of};
+use crate::signs::Signs;
 use crate::window::Window;
 
 /// How many nodes a picture has at most.
@@ -27,12 +28,13 @@ pub enum Reason {
     End,
 }
 
-/// What each node drives, which nodes have a pulse in the tick of the latest event, that tick, and whether the summary has
-/// begun.
+/// What each node drives, which nodes have a pulse in the tick of the latest event and how many signs stand there, that tick, and
+/// whether the summary has begun.
 #[derive(Clone, Copy)]
 pub(crate) struct Progress {
     pub(crate) driven: [Option<Drive>; MOST_LANES as usize],
     pub(crate) pulses: Pulses,
+    pub(crate) signs: Signs,
     pub(crate) tick: u32,
     pub(crate) in_summary: bool,
 }
@@ -88,13 +90,14 @@ fn has_wire(w: &Window, event: Event) -> bool
 }
 
 impl Progress {
-    /// Nothing was read, nobody drives, and no node has a pulse.
+    /// Nothing was read, nobody drives, and no node has a pulse or a sign.
     pub(crate) fn new() -> Progress
         ensures { result ≡ at_start }
     {
         Progress {
             driven: [None; MOST_LANES as usize],
             pulses: Pulses::none(),
+            signs: Signs::none(),
             tick: 0,
             in_summary: false,
         }
@@ -141,11 +144,14 @@ impl Progress {
             return Err(Reason::Node);
         }
         let before = *self;
-        self.pulses = before.pulses.after(before.tick < event.tick, event);
+        let moved = before.tick < event.tick;
+        let signs = before.signs.left(moved);
+        self.pulses = before.pulses.after(moved, event);
+        self.signs = signs.with(event);
         self.tick = event.tick;
         Ok(Told {
             bar: self.turn(w, event),
-            mark: mark(w, event),
+            mark: mark(w, event, signs.beside(event)),
             event: Some(event),
             before,
         })

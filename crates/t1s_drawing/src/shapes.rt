@@ -31,8 +31,11 @@ pub(crate) enum Shape {
         start: u32,
         stop: u32,
     },
-    /// What happened at a node in a tick.
-    Mark(Event),
+    /// What happened at a node in a tick, and how many signs stand before it there.
+    Mark {
+        event: Event,
+        beside: u8,
+    },
     /// The line of the tick in which all were in step.
     Settled,
     /// The line of what was counted at the node.
@@ -96,12 +99,12 @@ fn has_mark(what: Happening) -> bool
     )
 }
 
-/// The mark of the event, where it has one and the window shows its tick.
-pub(crate) fn mark(w: &Window, event: Event) -> Option<Shape>
-    ensures { result ≡ mark w.now event }
+/// The mark of the event beside as many others, where it has one and the window shows its tick.
+pub(crate) fn mark(w: &Window, event: Event, beside: u8) -> Option<Shape>
+    ensures { result ≡ mark w.now event beside }
 {
     if has_mark(event.what) && w.from <= event.tick && event.tick < w.until {
-        Some(Shape::Mark(event))
+        Some(Shape::Mark { event, beside })
     } else {
         None
     }

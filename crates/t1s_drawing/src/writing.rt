@@ -179,7 +179,7 @@ fn write_head<K: Sink>(w: &Window, sink: &mut K) -> Result<(), Failed>
         b"note",
         70,
         14,
-        b"ticks of 100 ns; +K is offer K, taken into the queue",
+        b"ticks of 100 ns; +K is offer K, taken into the queue; signs of one tick stand side by side",
     );
     write_line(&line, sink)
 }
